@@ -1,0 +1,18 @@
+-- The cases of specs/Cases, each list as one checked list. Assumes nothing.
+use mathlib.Core.Path.{_≡_, refl}
+use mathlib.Core.List.{flatMap}
+use Rattle.rules.specs.Ops.{inGroups}
+use Rattle.rules.specs.Reading.{brokenAt, takeWhile, dropWhile, constantsOf, extrasOf, chunksOf}
+use Rattle.rules.specs.Rows.{parse, firstOf, firstBackward}
+use Rattle.rules.specs.Count.{lastSet, arrayLength, neverSets}
+use Rattle.rules.specs.Cycles.{rowCost}
+use Rattle.rules.specs.Stack.{rowHeight}
+use Rattle.rules.specs.Order.{member, calleesIn, visitEach, visit, upFrom}
+use Rattle.rules.specs.Sheet.{linesIn}
+use Rattle.rules.specs.Text.{wordsOf, digits, linesText}
+use Rattle.rules.specs.Cases.{AllHold, documented, bytesIn}
+
+-- document 01's P cases
+pub documented-hold : AllHold documented
+unfolding flatMap inGroups brokenAt takeWhile dropWhile constantsOf extrasOf chunksOf parse firstOf firstBackward lastSet arrayLength neverSets rowCost rowHeight member calleesIn visitEach visit upFrom linesIn wordsOf digits linesText bytesIn
+documented-hold = (refl, (refl, (refl, (refl, (refl, (refl, (refl, (refl, (refl, (refl, (refl, (refl, (refl, (refl, tt))))))))))))))

@@ -1,0 +1,112 @@
+-- The cases of document 01 that are marked P, from filed words to what comes of them, and worked cases of the readings of its sentences.
+-- proofs/Checked proves each list as a whole, by computation.
+use mathlib.Core.Path.{_≡_}
+use mathlib.Core.Bool.{Bool, true, false}
+use mathlib.Core.List.{List, [], _∷_, _++_}
+use Prim.Native.Nat.{ℕ, suc, _+_, _*_, _-_, _/_, _%_, _^_}
+use Prim.Native.String.{String}
+use lib.IntN.{ℤ, pos, negsuc}
+use Rattle.rules.specs.Outcome.{Outcome, answer, refused}
+use Rattle.rules.specs.Ops.{word}
+use Rattle.rules.specs.Form.{Constant, integer, other, Chunk, moduleWords}
+use Rattle.rules.specs.Cycles.{Cost, costs, unbroken}
+use Rattle.rules.specs.Stack.{Stack, Delta, offset, ends}
+use Rattle.rules.specs.Sheet.{Line, Sheet, cyclesOutcome, stackOutcome, orderOutcome, sheetOutcome}
+use Rattle.rules.specs.Text.{heading, newline, space, sheetText}
+
+-- a case: what it is called, and what it says
+pub record Case : Type 1 where
+  pub name : String
+  pub claim : Type 0
+
+-- every case of a list holds
+abbrev pub AllHold : List Case → Type 0
+AllHold [] = Unit {0}
+AllHold (c ∷ cs) = c .claim × AllHold cs
+
+-- a chunk of type Func
+abbrev pub func : ℕ → List Constant → List ℕ → List ℕ → Chunk
+func locals constants ops extras =
+    record { locals = locals; type = 0; constants = constants; ops = ops; extras = extras }
+
+-- "Chunk L: locals 2, constants 0, 3, 1, type Func, ops: `Const 0, SetLocal 0, Const 1, SetLocal 1, Loop 15, GetLocal 0, GetLocal 1,
+-- CmpGe, BreakIf 15, GetLocal 0, Const 2, CheckedAdd, PopN 2, SetLocal 0, EndLoop 5, Return`", with its three constants left open
+abbrev pub chunkL : ℤ → ℤ → ℤ → Chunk
+chunkL start stop step =
+    func 2 (integer start ∷ integer stop ∷ integer step ∷ [])
+    (word 0 0 0 ∷ word 2 0 0 ∷ word 0 0 1 ∷ word 2 0 1 ∷ word 24 0 15 ∷ word 1 0 0 ∷ word 1 0 1 ∷ word 19 0 0 ∷ word 27 0 15
+    ∷ word 1 0 0 ∷ word 0 0 2 ∷ word 51 0 0 ∷ word 58 2 0 ∷ word 2 0 0 ∷ word 25 0 5 ∷ word 31 0 0 ∷ [])
+    []
+
+-- a chunk alone as a module, in words and in bytes
+abbrev pub alone : Chunk → List ℕ
+alone c = moduleWords (c ∷ [])
+
+unfoldable pub bytesIn : List ℕ → List ℕ
+bytesIn [] = []
+bytesIn (w ∷ ws) = w % 256 ∷ w / 256 % 256 ∷ w / 65536 % 256 ∷ w / 16777216 ∷ bytesIn ws
+
+-- the sheet of a module of one chunk
+abbrev pub one : ℕ → ℕ → ℕ → Outcome Sheet
+one c p b = answer (record { order = 0 ∷ []; lines = record { cycles = c; peak = p; bytes = b } ∷ [] })
+
+abbrev pub L : ℤ → Outcome Sheet
+L stop = sheetOutcome (alone (chunkL (pos 0) stop (pos 1))) 3
+
+-- "`Const, If 4, Trap 0, Else 5, Yield, EndIf, Return`"
+abbrev pub endedArm : Chunk
+endedArm = func 0 [] (word 0 0 0 ∷ word 21 0 4 ∷ word 50 0 0 ∷ word 22 0 5 ∷ word 32 0 0 ∷ word 23 0 0 ∷ word 31 0 0 ∷ []) []
+
+-- "a Stream chunk with Reset before Stream"
+abbrev pub resetFirst : Chunk
+resetFirst = record { locals = 1; type = 2; constants = []; ops = word 29 0 0 ∷ word 32 0 0 ∷ word 28 0 0 ∷ word 32 0 0 ∷ []; extras = [] }
+
+-- Yield with the greatest extra, and the same behind a Return
+abbrev pub openText : Chunk
+openText = func 0 [] (word 32 0 0 ∷ []) (4294967295 ∷ [])
+
+abbrev pub openTextBehind : Chunk
+openTextBehind = func 0 [] (word 31 0 0 ∷ word 32 0 0 ∷ []) (0 ∷ 4294967295 ∷ [])
+
+-- "no locals, one Call without arguments", and the same with so many locals
+abbrev pub oneCall : ℕ → Chunk
+oneCall locals = func locals [] (word 30 0 0 ∷ []) []
+
+-- what the walks of one chunk answer
+abbrev pub cycles : ℕ → Bool → Outcome Cost
+cycles c e = answer (costs c e unbroken)
+
+abbrev pub stack : ℕ → Delta → ℕ → Outcome Stack
+stack p d b = answer (record { peak = p; delta = d; bytes = b })
+
+abbrev pub sheet : Chunk → Outcome Sheet
+sheet c = sheetOutcome (alone c) 3
+
+-- The cases marked P, in the order of document 01.
+abbrev pub documented : List Case
+documented =
+    record {
+      name = "L alone as a module: the printed text";
+      claim = sheetText (bytesIn (alone (chunkL (pos 0) (pos 3) (pos 1))))
+          ≡ heading ++ (48 ∷ space ∷ 52 ∷ 56 ∷ space ∷ 51 ∷ space ∷ 49 ∷ 54 ∷ 48 ∷ newline ∷ []);
+    }
+    ∷ record { name = "constant 1 made 0: 12 cycles"; claim = L (pos 0) ≡ one 12 3 160 }
+    ∷ record { name = "made -1 (end below start): 12"; claim = L (negsuc 0) ≡ one 12 3 160 }
+    ∷ record { name = "made 4,294,967,295: cycles 4,294,967,295"; claim = L (pos 4294967295) ≡ one 4294967295 3 160 }
+    ∷ record { name = "made 4,294,967,296: refusal 9 at 4"; claim = L (pos 4294967296) ≡ refused 9 0 4 }
+    ∷ record {
+      name = "start -1, end 2^63-1: the subtraction leaves 64 bits, refusal 9";
+      claim = sheet (chunkL (negsuc 0) (pos (2 ^ 63 - 1)) (pos 1)) ≡ refused 9 0 4;
+    }
+    ∷ record { name = "Else is charged to an arm that has ended: 7 cycles"; claim = cyclesOutcome (alone endedArm) 0 ≡ cycles 7 true }
+    ∷ record { name = "no ops, locals 3: cycles 0, peak 0, bytes 96"; claim = sheet (func 3 [] [] []) ≡ one 0 0 96 }
+    ∷ record { name = "no ops, locals 3: delta 0"; claim = stackOutcome (alone (func 3 [] [] [])) 0 [] ≡ stack 0 (offset (pos 0)) 96 }
+    ∷ record { name = "extra 4,294,967,295 on a visited op: refusal 8"; claim = sheet openText ≡ refused 8 0 0 }
+    ∷ record { name = "after a Return: never looked at"; claim = sheet openTextBehind ≡ one 2 0 0 }
+    ∷ record { name = "a Stream chunk with Reset before Stream walks an empty range"; claim = sheet resetFirst ≡ one 0 0 32 }
+    ∷ record {
+      name = "no locals, one Call without arguments, callee bytes 4,294,967,295: peak 134,217,727";
+      claim = stackOutcome (alone (oneCall 0)) 0 (4294967295 ∷ []) ≡ stack 134217727 (offset (pos 1)) 4294967264;
+    }
+    ∷ record { name = "with one local: refusal 11"; claim = stackOutcome (alone (oneCall 1)) 0 (4294967295 ∷ []) ≡ refused 11 0 0 }
+    ∷ []

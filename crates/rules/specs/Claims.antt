@@ -1,0 +1,34 @@
+-- Demand 3 as types: what a sheet's lines say of every path. Its proof comes with the module sheet; here the claims are stated.
+use mathlib.Core.Path.{_≡_}
+use mathlib.Core.Bool.{Bool, true, false}
+use mathlib.Core.List.{List}
+use Prim.Native.Nat.{ℕ, _<_, _≤_, min}
+use lib.ListN.{length, getD}
+use Rattle.rules.specs.Outcome.{Outcome, answer}
+use Rattle.rules.specs.Form.{Chunk}
+use Rattle.rules.specs.Cycles.{cycleCap}
+use Rattle.rules.specs.Sheet.{Line, noLine, Sheet, readModule, sheetOutcome}
+use Rattle.rules.specs.Paths.{Way, begin, path, pathCycles, pathBytes, KeepsCounts, KeepsDepths}
+
+-- "A module is accepted if the module sheet answers and doesn't refuse": the words, the tray's length, the chunks and the sheet
+pub record Accepted (words : List ℕ) (room : ℕ) (cs : List Chunk) (s : Sheet) : Type 0 where
+  pub reads : readModule words ≡ answer cs
+  pub answers : sheetOutcome words room ≡ answer s
+
+abbrev pub lineAt : Sheet → ℕ → Line
+lineAt s c = getD (s .lines) c noLine
+
+-- "the cycles of the path are at most its sheet's", counted up to the cap, with no callee run: for every path that keeps to its loops'
+-- counts, whichever way each If and BreakIf goes and wherever it stops
+abbrev pub CyclesBounded : Type 0
+CyclesBounded =
+    (words : List ℕ) (room : ℕ) (cs : List Chunk) (s : Sheet) → Accepted words room cs s → (c : ℕ) → c < length cs
+    → (ways : List Way) → KeepsCounts cs false (begin cs c) ways
+    → min cycleCap (pathCycles cs (path cs false (begin cs c) ways)) ≤ lineAt s c .cycles
+
+-- "and, callees run, the stack bytes too": for every path whose whole passes and breaks leave no more than the depth at their entry
+abbrev pub StackBounded : Type 0
+StackBounded =
+    (words : List ℕ) (room : ℕ) (cs : List Chunk) (s : Sheet) → Accepted words room cs s → (c : ℕ) → c < length cs
+    → (ways : List Way) → KeepsDepths cs true (begin cs c) ways
+    → pathBytes cs c (path cs true (begin cs c) ways) ≤ lineAt s c .bytes

@@ -1,0 +1,137 @@
+-- "Count (`extract_loop_iteration_bound`)": the passes of a counted loop.
+use mathlib.Core.Bool.{Bool, true, false, cond, not, _&&_}
+use mathlib.Core.List.{List, [], _∷_}
+use Prim.Native.Nat.{ℕ, zero, suc, _+_, _-_, _^_}
+use lib.Dec.{eqb, leb, ltb}
+use lib.IntN.{ℤ, pos, negsuc, _-ℤ_}
+use lib.ListN.{length, getD}
+use lib.Signed.{ltZ}
+use Rattle.rules.specs.Outcome.{Result, ok, no, Found, found, nothing, andThen}
+use Rattle.rules.specs.Ops.{kind, fieldA, fieldB, opAt}
+use Rattle.rules.specs.Form.{Constant, integer, other, Chunk}
+
+-- a value that a search may find
+pub data Value : Type 0 where
+  is : ℤ → Value
+  unknown : Value
+
+abbrev pub isGetLocal : ℕ → ℕ → Bool
+isGetLocal slot w = eqb (kind w) 1 && eqb (fieldA w) slot
+
+abbrev pub isSetLocal : ℕ → ℕ → Bool
+isSetLocal slot w = eqb (kind w) 2 && eqb (fieldA w) slot
+
+-- "The search runs backward and ends at the first SetLocal of that slot": below position n
+unfoldable pub lastSet : List ℕ → ℕ → ℕ → Found
+lastSet ops zero slot = nothing
+lastSet ops (suc i) slot = cond (isSetLocal slot (opAt ops i)) (found i) (lastSet ops i slot)
+
+abbrev pub arrayCopy : Bool → (ℕ → Value) → ℕ → Value
+arrayCopy true next w = next (fieldA w)
+arrayCopy false next w = unknown
+
+abbrev pub arrayLiteral : Bool → (ℕ → Value) → ℕ → Value
+arrayLiteral true next w = is (pos (fieldA w))
+arrayLiteral false next w = arrayCopy (eqb (kind w) 1) next w
+
+-- What stands right before an array's SetLocal: "NewComposite of kind 1 right before it, whose a is the length; an array copied from
+-- another local is followed to its literal"; `next` follows the local that is copied.
+abbrev pub arraySource : ℕ → (ℕ → Value) → Value
+arraySource w next = arrayLiteral (eqb (kind w) 34 && eqb (fieldB w) 1) next w
+
+abbrev pub atArraySet : Bool → (ℕ → Value) → (ℕ → Value) → ℕ → ℕ → Value
+atArraySet true copy down w slot = arraySource w copy
+atArraySet false copy down w slot = down slot
+
+-- The length of the array in a slot, its SetLocal searched below position n ("searched from the GetLocal", "from the copying GetLocal").
+-- A SetLocal at position 0 has nothing before it.
+unfoldable pub arrayLength : List ℕ → ℕ → ℕ → Value
+arrayLength ops zero slot = unknown
+arrayLength ops (suc zero) slot = unknown
+arrayLength ops (suc (suc i)) slot =
+    atArraySet (isSetLocal slot (opAt ops (suc i))) (λ s. arrayLength ops i s) (λ s. arrayLength ops (suc i) s) (opAt ops i) slot
+
+abbrev pub constantValue : Constant → Value
+constantValue (integer z) = is z
+constantValue other = unknown
+
+abbrev pub lengthBefore : Bool → List ℕ → ℕ → Value
+lengthBefore true ops i = arrayLength ops i (fieldA (opAt ops i))
+lengthBefore false ops i = unknown
+
+-- "GetLocal of an array and then Len": the GetLocal at i, Len right behind it
+abbrev pub lenSource : List ℕ → ℕ → Value
+lenSource ops zero = unknown
+lenSource ops (suc i) = lengthBefore (eqb (kind (opAt ops (suc i))) 39 && eqb (kind (opAt ops i)) 1) ops i
+
+abbrev pub valueBefore : Bool → List Constant → List ℕ → ℕ → Value
+valueBefore true constants ops i = constantValue (getD constants (fieldA (opAt ops i)) other)
+valueBefore false constants ops i = lenSource ops i
+
+-- "right before it stands Const of an integer, or GetLocal of an array and then Len; else there is none"
+abbrev pub valueAt : List Constant → List ℕ → Found → Value
+valueAt constants ops nothing = unknown
+valueAt constants ops (found zero) = unknown
+valueAt constants ops (found (suc i)) = valueBefore (eqb (kind (opAt ops i)) 0) constants ops i
+
+-- "A value is searched from p."
+abbrev pub valueOf : List Constant → List ℕ → ℕ → ℕ → Value
+valueOf constants ops p slot = valueAt constants ops (lastSet ops p slot)
+
+-- "behind Loop at p stand GetLocal v, GetLocal e, CmpGe, BreakIf: the header test"
+abbrev pub hasHeader : List ℕ → ℕ → Bool
+hasHeader ops p =
+    eqb (kind (opAt ops p)) 24 && eqb (kind (opAt ops (p + 1))) 1 && eqb (kind (opAt ops (p + 2))) 1
+    && eqb (kind (opAt ops (p + 3))) 19 && eqb (kind (opAt ops (p + 4))) 27
+
+-- none of the n ops from position i on is a SetLocal of the slot
+unfoldable pub neverSets : List ℕ → ℕ → ℕ → ℕ → Bool
+neverSets ops slot zero i = true
+neverSets ops slot (suc n) i = not (isSetLocal slot (opAt ops i)) && neverSets ops slot n (suc i)
+
+abbrev pub isPositive : Constant → Bool
+isPositive (integer z) = ltZ (pos 0) z
+isPositive other = false
+
+-- "EndLoop, right before Loop's target, is at p + 10 or later, right behind GetLocal v, Const of an integer over 0, CheckedAdd, PopN 2,
+-- SetLocal v; from p + 5 to it there is no SetLocal e and no other SetLocal v" (`loop_body_advances_induction`). EndLoop is at n.
+abbrev pub hasTail : List Constant → List ℕ → ℕ → ℕ → ℕ → ℕ → Bool
+hasTail constants ops p n v e =
+    leb (p + 10) n && eqb (kind (opAt ops n)) 25 && isGetLocal v (opAt ops (n - 5)) && eqb (kind (opAt ops (n - 4))) 0
+    && isPositive (getD constants (fieldA (opAt ops (n - 4))) other) && eqb (kind (opAt ops (n - 3))) 51
+    && eqb (kind (opAt ops (n - 2))) 58 && eqb (fieldB (opAt ops (n - 2))) 2 && isSetLocal v (opAt ops (n - 1))
+    && neverSets ops e (n - (p + 5)) (p + 5) && neverSets ops v (n - (p + 6)) (p + 5)
+
+-- "none if that leaves signed 64 bits or passes 4,294,967,295"
+abbrev pub distance : ℤ → Found
+distance (pos n) = cond (ltb n (2 ^ 63) && leb n 4294967295) (found n) nothing
+distance (negsuc n) = nothing
+
+-- "The count is 0 if e's value is below v's, else their distance"
+abbrev pub passes : ℤ → ℤ → Found
+passes start stop = cond (ltZ stop start) (found 0) (distance (stop -ℤ start))
+
+abbrev pub countUp : Value → Value → Found
+countUp (is start) (is stop) = passes start stop
+countUp (is start) unknown = nothing
+countUp unknown (is stop) = nothing
+countUp unknown unknown = nothing
+
+abbrev pub countIf : Bool → List Constant → List ℕ → ℕ → ℕ → ℕ → Found
+countIf true constants ops p v e = countUp (valueOf constants ops p v) (valueOf constants ops p e)
+countIf false constants ops p v e = nothing
+
+-- The count of the loop at p: v and e are the slots of the header's two GetLocals.
+abbrev pub countAt : List Constant → List ℕ → ℕ → Found
+countAt constants ops p =
+    let v = fieldA (opAt ops (p + 1)) in
+    let e = fieldA (opAt ops (p + 2)) in
+    countIf (hasHeader ops p && hasTail constants ops p (fieldA (opAt ops p) - 1) v e) constants ops p v e
+
+abbrev pub orNoCount : Found → ℕ → Result ℕ
+orNoCount (found n) p = ok n
+orNoCount nothing p = no 9 p
+
+-- "9 no count: visited loop needs one and has none, place Loop"
+abbrev pub countOf : Chunk → ℕ → Result ℕ
+countOf c p = orNoCount (countAt (c .constants) (c .ops) p) p

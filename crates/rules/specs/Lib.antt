@@ -1,0 +1,14 @@
+pub mod Outcome
+pub mod Ops
+pub mod Form
+pub mod Reading
+pub mod Rows
+pub mod Count
+pub mod Cycles
+pub mod Stack
+pub mod Order
+pub mod Sheet
+pub mod Text
+pub mod Cases
+pub mod Paths
+pub mod Claims

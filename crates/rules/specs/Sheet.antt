@@ -1,0 +1,112 @@
+-- "Refusing": what each entry point answers, its tests in document 01's order, and what it leaves in a lent tray.
+use mathlib.Core.Bool.{Bool, true, false, cond}
+use mathlib.Core.List.{List, [], _∷_, _++_, map}
+use Prim.Native.Nat.{ℕ, zero, suc, _*_}
+use lib.Dec.{leb, ltb}
+use lib.ListN.{length, getD, set, drop, replicate}
+use Rattle.rules.specs.Outcome.{Result, ok, no, Outcome, answer, refused, andThen, followedBy, inChunk, demand}
+use Rattle.rules.specs.Form.{Chunk}
+use Rattle.rules.specs.Reading.{read}
+use Rattle.rules.specs.Rows.{Row, chunkRow}
+use Rattle.rules.specs.Count.{countOf}
+use Rattle.rules.specs.Cycles.{Cost, chunkCycles, cappedCost, cycleCap}
+use Rattle.rules.specs.Stack.{Stack, chunkStack, rowStack}
+use Rattle.rules.specs.Order.{Listing, listed, ring, callOrder, chunkAt}
+
+-- 1 and 2: chunk 0
+abbrev pub readModule : List ℕ → Outcome (List Chunk)
+readModule ws = inChunk 0 (read ws)
+
+-- the reader: the chunk count, or 1 or 2
+abbrev pub readOutcome : List ℕ → Outcome ℕ
+readOutcome ws = followedBy (readModule ws) (λ cs. answer (length cs))
+
+-- "12 no such chunk: index too great, place 0": the chunk is the index handed in
+abbrev pub chunkOutcome : List ℕ → ℕ → Outcome Chunk
+chunkOutcome ws c =
+    followedBy (readModule ws) (λ cs. inChunk c (demand (ltb c (length cs)) 12 0 (chunkAt cs c)))
+
+-- "The count alone, for any position handed in, tests 1, 2, 12, 9, the place being that position."
+abbrev pub countOutcome : List ℕ → ℕ → ℕ → Outcome ℕ
+countOutcome ws c p = followedBy (chunkOutcome ws c) (λ k. inChunk c (countOf k p))
+
+-- the cycle walk of one chunk: 1, 2, 12, 3, 4, 5, 6, and 7 to 9 as the walk meets them
+abbrev pub cyclesOutcome : List ℕ → ℕ → Outcome Cost
+cyclesOutcome ws c = followedBy (chunkOutcome ws c) (λ k. inChunk c (chunkCycles k))
+
+-- the stack walk of one chunk over a lent callee list: 1, 2, 12, 3, 4, 5, 6, then 7 and 9, then 11
+abbrev pub stackOutcome : List ℕ → ℕ → List ℕ → Outcome Stack
+stackOutcome ws c callees = followedBy (chunkOutcome ws c) (λ k. inChunk c (chunkStack k callees))
+
+-- "13 short tray: lent result buffer too small"
+abbrev pub withRoom : ℕ → ℕ → List Chunk → Outcome (List Chunk)
+withRoom room wanted cs = inChunk 0 (demand (leb wanted room) 13 0 cs)
+
+-- "10 ring: calls in a circle, place 0; chunk met again"
+abbrev pub ringOutcome : Listing → Outcome (List ℕ)
+ringOutcome (listed order) = answer order
+ringOutcome (ring c) = refused 10 c 0
+
+-- "The order alone tests 1, 2, 13, 10"; `room` is the length of the tray, which holds "one number a chunk for the order"
+abbrev pub orderOutcome : List ℕ → ℕ → Outcome (List ℕ)
+orderOutcome ws room =
+    followedBy (readModule ws)
+    (λ cs. followedBy (withRoom room (length cs) cs) (λ ds. ringOutcome (callOrder ds)))
+
+-- "what lies beyond is left"; "a refusal writes to no lent buffer"
+abbrev pub orderTray : Outcome (List ℕ) → List ℕ → List ℕ
+orderTray (answer order) tray = order ++ drop (length order) tray
+orderTray (refused n c p) tray = tray
+
+-- a chunk's row of the sheet: cycles, peak in slots, stack bytes
+pub record Line : Type 0 where
+  pub cycles : ℕ
+  pub peak : ℕ
+  pub bytes : ℕ
+
+abbrev pub lineOf : Cost → Stack → Line
+lineOf c s = record { cycles = c .cycles; peak = s .peak; bytes = s .bytes }
+
+-- one chunk of a module: 3, 4, 5, 6, the cycle walk's 7 to 9, the stack walk's, 11
+abbrev pub chunkLine : Chunk → List ℕ → Result Line
+chunkLine c callees =
+    andThen (chunkRow c)
+    (λ r. andThen (cappedCost cycleCap c r) (λ k. andThen (rowStack c callees r) (λ s. ok (lineOf k s))))
+
+abbrev pub noLine : Line
+noLine = record { cycles = 0; peak = 0; bytes = 0 }
+
+-- the stack bytes by chunk index, 0 for a chunk that has no line yet
+abbrev pub bytesList : List Line → List ℕ
+bytesList lines = map (λ l. l .bytes) lines
+
+-- "in a whole module chunk after chunk in call order": the lines by chunk index
+unfoldable pub linesIn : List ℕ → List Chunk → List Line → Outcome (List Line)
+linesIn [] cs lines = answer lines
+linesIn (c ∷ order) cs lines =
+    followedBy (inChunk c (chunkLine (chunkAt cs c) (bytesList lines))) (λ l. linesIn order cs (set lines c l))
+
+-- an accepted module's sheet: the call order, and the lines by chunk index
+pub record Sheet : Type 0 where
+  pub order : List ℕ
+  pub lines : List Line
+
+abbrev pub sheetOf : List Chunk → Outcome Sheet
+sheetOf cs =
+    followedBy (ringOutcome (callOrder cs))
+    (λ order. followedBy (linesIn order cs (replicate (length cs) noLine))
+    (λ lines. answer (record { order = order; lines = lines })))
+
+-- the module sheet: 1, 2, 13, 10, then chunk after chunk; its tray holds "three for the sheet"
+abbrev pub sheetOutcome : List ℕ → ℕ → Outcome Sheet
+sheetOutcome ws room =
+    followedBy (readModule ws) (λ cs. followedBy (withRoom room (3 * length cs) cs) (λ ds. sheetOf ds))
+
+-- "(cycles, peak, bytes, by chunk index)"
+unfoldable pub trayNumbers : List Line → List ℕ
+trayNumbers [] = []
+trayNumbers (l ∷ ls) = l .cycles ∷ l .peak ∷ l .bytes ∷ trayNumbers ls
+
+abbrev pub sheetTray : Outcome Sheet → List ℕ → List ℕ
+sheetTray (answer s) tray = trayNumbers (s .lines) ++ drop (3 * length (s .lines)) tray
+sheetTray (refused n c p) tray = tray
