@@ -10,9 +10,14 @@ use Rattle.rules.specs.Stack.{rowHeight}
 use Rattle.rules.specs.Order.{member, calleesIn, visitEach, visit, upFrom}
 use Rattle.rules.specs.Sheet.{linesIn}
 use Rattle.rules.specs.Text.{wordsOf, digits, linesText}
-use Rattle.rules.specs.Cases.{AllHold, documented, bytesIn}
+use Rattle.rules.specs.Cases.{AllHold, documented, settled, bytesIn}
 
 -- document 01's P cases
 pub documented-hold : AllHold documented
 unfolding flatMap inGroups brokenAt takeWhile dropWhile constantsOf extrasOf chunksOf parse firstOf firstBackward lastSet arrayLength neverSets rowCost rowHeight member calleesIn visitEach visit upFrom linesIn wordsOf digits linesText bytesIn
 documented-hold = (refl, (refl, (refl, (refl, (refl, (refl, (refl, (refl, (refl, (refl, (refl, (refl, (refl, (refl, tt))))))))))))))
+
+-- what was settled where its words leave a choice
+pub settled-hold : AllHold settled
+unfolding flatMap inGroups brokenAt takeWhile dropWhile constantsOf extrasOf chunksOf parse firstOf firstBackward lastSet arrayLength neverSets rowCost rowHeight member calleesIn visitEach visit upFrom linesIn wordsOf digits linesText bytesIn
+settled-hold = (refl, (refl, (refl, (refl, (refl, (refl, (refl, (refl, (refl, (refl, (refl, (refl, (refl, (refl, (refl, (refl, tt))))))))))))))))

@@ -9,9 +9,9 @@ use lib.IntN.{ℤ, pos, negsuc}
 use Rattle.rules.specs.Outcome.{Outcome, answer, refused}
 use Rattle.rules.specs.Ops.{word}
 use Rattle.rules.specs.Form.{Constant, integer, other, Chunk, moduleWords}
-use Rattle.rules.specs.Cycles.{Cost, costs, unbroken}
+use Rattle.rules.specs.Cycles.{Cycles}
 use Rattle.rules.specs.Stack.{Stack, Delta, offset, ends}
-use Rattle.rules.specs.Sheet.{Line, Sheet, cyclesOutcome, stackOutcome, orderOutcome, sheetOutcome}
+use Rattle.rules.specs.Sheet.{Line, Sheet, readOutcome, cyclesOutcome, stackOutcome, orderOutcome, sheetOutcome}
 use Rattle.rules.specs.Text.{heading, newline, space, sheetText}
 
 -- a case: what it is called, and what it says
@@ -73,8 +73,8 @@ abbrev pub oneCall : ℕ → Chunk
 oneCall locals = func locals [] (word 30 0 0 ∷ []) []
 
 -- what the walks of one chunk answer
-abbrev pub cycles : ℕ → Bool → Outcome Cost
-cycles c e = answer (costs c e unbroken)
+abbrev pub cycles : ℕ → Bool → Outcome Cycles
+cycles c e = answer (record { cycles = c; ends = e })
 
 abbrev pub stack : ℕ → Delta → ℕ → Outcome Stack
 stack p d b = answer (record { peak = p; delta = d; bytes = b })
@@ -109,4 +109,68 @@ documented =
       claim = stackOutcome (alone (oneCall 0)) 0 (4294967295 ∷ []) ≡ stack 134217727 (offset (pos 1)) 4294967264;
     }
     ∷ record { name = "with one local: refusal 11"; claim = stackOutcome (alone (oneCall 1)) 0 (4294967295 ∷ []) ≡ refused 11 0 0 }
+    ∷ []
+
+-- a chunk of no locals and constants that calls these chunks
+abbrev pub caller : List ℕ → Chunk
+caller ops = func 0 [] ops []
+
+-- Where the words of document 01 leave a choice, what was chosen (docs/DECISIONS.md has the readings by number), and the errors that it wants
+-- ruled out.
+abbrev pub settled : List Case
+settled =
+    record {
+      name = "reading 1: the lent list alone decides, Call 1 over 0 and 64 bytes: peak 2";
+      claim = stackOutcome (alone (caller (word 30 0 1 ∷ []))) 0 (0 ∷ 64 ∷ []) ≡ stack 2 (offset (pos 1)) 64;
+    }
+    ∷ record {
+      name = "reading 2: the first word of the other kind is the bad word";
+      claim = readOutcome (word 199 0 1 ∷ word 200 0 0 ∷ word 202 0 5 ∷ word 203 1 0 ∷ []) ≡ refused 2 0 3;
+    }
+    ∷ record { name = "reading 3: GetData with a = 1 is refusal 2"; claim = readOutcome (alone (caller (word 3 0 1 ∷ []))) ≡ refused 2 0 2 }
+    ∷ record { name = "reading 4: the chunk of refusal 12 is the index handed in"; claim = cyclesOutcome (alone (caller [])) 7 ≡ refused 12 7 0 }
+    ∷ record {
+      name = "reading 5: Stream and Reset themselves are not charged";
+      claim = sheet (record { locals = 0; type = 2; constants = []; ops = word 28 0 0 ∷ word 32 0 0 ∷ word 29 0 0 ∷ []; extras = [] }) ≡ one 1 0 0;
+    }
+    ∷ record {
+      name = "reading 6: a Break before Stream is no matter, one between Stream and Reset is crossed";
+      claim = sheet (record { locals = 0; type = 2; constants = []; ops = word 26 0 0 ∷ word 28 0 0 ∷ word 26 0 0 ∷ word 29 0 0 ∷ []; extras = [] })
+          ≡ refused 6 0 0;
+    }
+    ∷ record {
+      name = "reading 7: Loop 4, Return, Break, EndLoop, Yield gives 3 cycles and ends";
+      claim = cyclesOutcome (alone (caller (word 24 0 4 ∷ word 31 0 0 ∷ word 26 0 0 ∷ word 25 0 0 ∷ word 32 0 0 ∷ []))) 0 ≡ cycles 3 true;
+    }
+    ∷ record {
+      name = "reading 10: PopN 9, If 3, Const 0, EndIf has peak 1";
+      claim = stackOutcome (alone (caller (word 58 9 0 ∷ word 21 0 3 ∷ word 0 0 0 ∷ word 23 0 0 ∷ []))) 0 [] ≡ stack 1 (offset (negsuc 8)) 32;
+    }
+    ∷ record {
+      name = "reading 10: flat PopN 9, Const 0 has peak 0";
+      claim = stackOutcome (alone (caller (word 58 9 0 ∷ word 0 0 0 ∷ []))) 0 [] ≡ stack 0 (offset (negsuc 7)) 0;
+    }
+    ∷ record {
+      name = "reading 13: a loop with no count and the greatest extra on its EndLoop is 9";
+      claim = sheet (func 0 [] (word 24 0 2 ∷ word 25 0 0 ∷ []) (0 ∷ 4294967295 ∷ [])) ≡ refused 9 0 0;
+    }
+    ∷ record {
+      name = "reading 14: end below start, the difference outside 64 bits: count 0";
+      claim = sheet (chunkL (pos (2 ^ 63 - 1)) (negsuc 1) (pos 1)) ≡ one 12 3 160;
+    }
+    ∷ record {
+      name = "reading 15: 0 calls 1, 1 calls 2, 2 calls 1: ring, chunk 1";
+      claim = orderOutcome (moduleWords (caller (word 30 0 1 ∷ []) ∷ caller (word 30 0 2 ∷ []) ∷ caller (word 30 0 1 ∷ []) ∷ [])) 3 ≡ refused 10 1 0;
+    }
+    ∷ record { name = "an If whose target is the length is refusal 6"; claim = sheet (caller (word 21 0 1 ∷ [])) ≡ refused 6 0 0 }
+    ∷ record {
+      name = "EndLoop is not charged to a body that never gets there; Loop's target may be the length";
+      claim = sheet (caller (word 24 0 3 ∷ word 26 0 0 ∷ word 25 0 0 ∷ [])) ≡ one 2 0 0;
+    }
+    ∷ record { name = "the count is not divided by the step"; claim = sheet (chunkL (pos 0) (pos 3) (pos 2)) ≡ one 48 3 160 }
+    ∷ record {
+      name = "an arm that has ended has no delta: Const 0, Const 0, If 5, Trap 0, Else 6, SetLocal 0, EndIf";
+      claim = stackOutcome (alone (caller (word 0 0 0 ∷ word 0 0 0 ∷ word 21 0 5 ∷ word 50 0 0 ∷ word 22 0 6 ∷ word 2 0 0 ∷ word 23 0 0 ∷ []))) 0 []
+          ≡ stack 2 (offset (pos 0)) 64;
+    }
     ∷ []

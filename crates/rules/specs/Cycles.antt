@@ -116,6 +116,14 @@ cappedCost cap c r = rowCost (min cap) (chargeOf c) (countOf c) r deepest 0 unbr
 abbrev pub cycleCap : ℕ
 cycleCap = 4294967295
 
--- the cycle walk of a chunk: 3, 4, 5, 6, then 7, 8, 9 as the walk meets them; its cycles, and whether the row ends
-abbrev pub chunkCycles : Chunk → Result Cost
-chunkCycles c = andThen (chunkRow c) (λ r. cappedCost cycleCap c r)
+-- the answer of the cycle walk: the cycles, and whether the row ends. No break leads out of a range, so none is left to tell.
+pub record Cycles : Type 0 where
+  pub cycles : ℕ
+  pub ends : Bool
+
+abbrev pub cyclesOf : Cost → Cycles
+cyclesOf k = record { cycles = k .cycles; ends = k .ends }
+
+-- the cycle walk of a chunk: 3, 4, 5, 6, then 7, 8, 9 as the walk meets them
+abbrev pub chunkCycles : Chunk → Result Cycles
+chunkCycles c = andThen (chunkRow c) (λ r. andThen (cappedCost cycleCap c r) (λ k. ok (cyclesOf k)))

@@ -54,7 +54,7 @@ byMarks false true c done walk = listed done
 byMarks false false c done walk = walk c
 
 -- "one not yet listed first visits the callees .., then is listed. A chunk met while its own visit is open makes the ring." `opened`
--- are the chunks whose visits are open. No two of them are the same, so the number that falls never runs out (proofs/Order).
+-- are the chunks whose visits are open. No two of them are the same, so the number that falls never runs out (proofs/CallOrder).
 unfoldable pub visit : List Chunk → ℕ → List ℕ → ℕ → List ℕ → Listing
 visit cs zero opened c done = ring c
 visit cs (suc f) opened c done =
@@ -71,7 +71,7 @@ upFrom i (suc n) = i ∷ upFrom (suc i) n
 abbrev pub callOrder : List Chunk → Listing
 callOrder cs = visitEach (λ c d. visit cs (suc (length cs)) [] c d) (length cs) (upFrom 0 (length cs)) []
 
--- What the order is for, as proofs/Order shows it of every answer. Chunk c calls chunk k of the module:
+-- What the order is for, as proofs/CallOrder shows it of every answer. Chunk c calls chunk k of the module:
 abbrev pub Calls : List Chunk → ℕ → ℕ → Type 0
 Calls cs c k = (k < length cs) × (member k (calleesOf cs c) ≡ true)
 

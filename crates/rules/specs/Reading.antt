@@ -1,5 +1,5 @@
 -- "The filed words" read: a list of numbers gives chunks, or refusal 1 or 2 with its place. `Form` has the same as a grammar, and
--- proofs/Reading shows that the two agree and that the place is the document's.
+-- proofs/ReadingAgrees shows that the two agree, and proofs/ReadingPlace that the place is the document's.
 use mathlib.Core.Bool.{Bool, true, false, cond, _&&_, _||_}
 use mathlib.Core.List.{List, [], _∷_}
 use Prim.Native.Nat.{ℕ, zero, suc, _+_, _*_, _-_, _^_}

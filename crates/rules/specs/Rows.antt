@@ -154,7 +154,7 @@ abbrev pub parseIn : Bool → (ℕ → ℕ) → (Bool → ℕ → ℕ → Parsed
 parseIn true op rows inLoop i to = parseOp (shapeOf (op i)) op rows inLoop i to
 parseIn false op rows inLoop i to = row end
 
--- One op takes one unit of the number that falls, so as many units as there are positions are enough; proofs/Rows shows that the
+-- One op takes one unit of the number that falls, so as many units as there are positions are enough; proofs/RowTree shows that the
 -- answer is the tree of `IsRow`, and none exactly where there is none.
 unfoldable pub parse : ℕ → (ℕ → ℕ) → Bool → ℕ → ℕ → Parsed
 parse zero op inLoop i to = cond (ltb i to) crossed (row end)

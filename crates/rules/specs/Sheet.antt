@@ -9,7 +9,7 @@ use Rattle.rules.specs.Form.{Chunk}
 use Rattle.rules.specs.Reading.{read}
 use Rattle.rules.specs.Rows.{Row, chunkRow}
 use Rattle.rules.specs.Count.{countOf}
-use Rattle.rules.specs.Cycles.{Cost, chunkCycles, cappedCost, cycleCap}
+use Rattle.rules.specs.Cycles.{Cost, Cycles, chunkCycles, cappedCost, cycleCap}
 use Rattle.rules.specs.Stack.{Stack, chunkStack, rowStack}
 use Rattle.rules.specs.Order.{Listing, listed, ring, callOrder, chunkAt}
 
@@ -31,7 +31,7 @@ abbrev pub countOutcome : List ℕ → ℕ → ℕ → Outcome ℕ
 countOutcome ws c p = followedBy (chunkOutcome ws c) (λ k. inChunk c (countOf k p))
 
 -- the cycle walk of one chunk: 1, 2, 12, 3, 4, 5, 6, and 7 to 9 as the walk meets them
-abbrev pub cyclesOutcome : List ℕ → ℕ → Outcome Cost
+abbrev pub cyclesOutcome : List ℕ → ℕ → Outcome Cycles
 cyclesOutcome ws c = followedBy (chunkOutcome ws c) (λ k. inChunk c (chunkCycles k))
 
 -- the stack walk of one chunk over a lent callee list: 1, 2, 12, 3, 4, 5, 6, then 7 and 9, then 11
