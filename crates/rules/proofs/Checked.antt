@@ -1,5 +1,5 @@
 -- The cases of specs/Cases, each list as one checked list. Assumes nothing.
-use mathlib.Core.Path.{_≡_, refl}
+use mathlib.Core.Path.{refl}
 use mathlib.Core.List.{flatMap}
 use Rattle.rules.specs.Ops.{inGroups}
 use Rattle.rules.specs.Reading.{brokenAt, takeWhile, dropWhile, constantsOf, extrasOf, chunksOf}

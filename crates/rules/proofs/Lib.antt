@@ -1,6 +1,15 @@
-pub mod Capped
+pub mod WordFields
+pub mod ConstantWords
+pub mod ReadingParts
+pub mod ReadingDecodes
+pub mod ReadingAccepts
+pub mod ReadingFinds
+pub mod ReadingAgrees
+pub mod ReadingFinishes
+pub mod ReadingPlace
 pub mod Shapes
 pub mod RowTree
+pub mod Capped
 pub mod Members
 pub mod CallOrder
 pub mod Checked

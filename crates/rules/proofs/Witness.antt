@@ -3,7 +3,7 @@
 use mathlib.Core.Path.{_≡_, refl, sym, ap, _∙_}
 use mathlib.Core.Bool.{Bool, true, false, _&&_}
 use mathlib.Core.List.{List, [], _∷_, _++_}
-use Prim.Native.Nat.{ℕ, zero, suc, _≤_}
+use Prim.Native.Nat.{ℕ}
 use borrow.Author.Tests.{leb-true}
 use lib.Dec.{leb}
 use lib.IntN.{pos}
@@ -14,7 +14,7 @@ use Rattle.rules.specs.Form.{Chunk}
 use Rattle.rules.specs.Rows.{shapeOf}
 use Rattle.rules.specs.Count.{countAt, lastSet, arrayLength, neverSets}
 use Rattle.rules.specs.Order.{chunkAt}
-use Rattle.rules.specs.Paths.{Way, on, aside, Entry, Frame, Spot, here, over, go, settle, begin, path, pathCycles, pathDepth, opOf, EntryKept, KeepsCounts, depthKept, KeepsDepths}
+use Rattle.rules.specs.Paths.{Way, on, aside, Entry, Spot, here, over, go, settle, begin, path, pathCycles, pathDepth, opOf, EntryKept, KeepsCounts, depthKept, KeepsDepths}
 use Rattle.rules.specs.Cases.{chunkL}
 
 -- a test that computes: each op is taken with its innermost entry's passes at most the count, if there is one

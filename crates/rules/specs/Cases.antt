@@ -1,9 +1,9 @@
 -- The cases of document 01 that are marked P, from filed words to what comes of them, and worked cases of the readings of its sentences.
 -- proofs/Checked proves each list as a whole, by computation.
 use mathlib.Core.Path.{_≡_}
-use mathlib.Core.Bool.{Bool, true, false}
+use mathlib.Core.Bool.{Bool, true}
 use mathlib.Core.List.{List, [], _∷_, _++_}
-use Prim.Native.Nat.{ℕ, suc, _+_, _*_, _-_, _/_, _%_, _^_}
+use Prim.Native.Nat.{ℕ, _+_, _-_, _/_, _%_, _^_}
 use Prim.Native.String.{String}
 use lib.IntN.{ℤ, pos, negsuc}
 use Rattle.rules.specs.Outcome.{Outcome, answer, refused}
@@ -11,7 +11,7 @@ use Rattle.rules.specs.Ops.{word}
 use Rattle.rules.specs.Form.{Constant, integer, other, Chunk, moduleWords}
 use Rattle.rules.specs.Cycles.{Cycles}
 use Rattle.rules.specs.Stack.{Stack, Delta, offset, ends}
-use Rattle.rules.specs.Sheet.{Line, Sheet, readOutcome, cyclesOutcome, stackOutcome, orderOutcome, sheetOutcome}
+use Rattle.rules.specs.Sheet.{Sheet, readOutcome, cyclesOutcome, stackOutcome, orderOutcome, sheetOutcome}
 use Rattle.rules.specs.Text.{heading, newline, space, sheetText}
 
 -- a case: what it is called, and what it says

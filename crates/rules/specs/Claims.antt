@@ -1,10 +1,10 @@
 -- Demand 3 as types: what a sheet's lines say of every path. Its proof comes with the module sheet; here the claims are stated.
 use mathlib.Core.Path.{_≡_}
-use mathlib.Core.Bool.{Bool, true, false}
+use mathlib.Core.Bool.{true, false}
 use mathlib.Core.List.{List}
 use Prim.Native.Nat.{ℕ, _<_, _≤_, min}
 use lib.ListN.{length, getD}
-use Rattle.rules.specs.Outcome.{Outcome, answer}
+use Rattle.rules.specs.Outcome.{answer}
 use Rattle.rules.specs.Form.{Chunk}
 use Rattle.rules.specs.Cycles.{cycleCap}
 use Rattle.rules.specs.Sheet.{Line, noLine, Sheet, readModule, sheetOutcome}

@@ -1,12 +1,12 @@
 -- "Count (`extract_loop_iteration_bound`)": the passes of a counted loop.
 use mathlib.Core.Bool.{Bool, true, false, cond, not, _&&_}
-use mathlib.Core.List.{List, [], _∷_}
+use mathlib.Core.List.{List}
 use Prim.Native.Nat.{ℕ, zero, suc, _+_, _-_, _^_}
 use lib.Dec.{eqb, leb, ltb}
 use lib.IntN.{ℤ, pos, negsuc, _-ℤ_}
-use lib.ListN.{length, getD}
+use lib.ListN.{getD}
 use lib.Signed.{ltZ}
-use Rattle.rules.specs.Outcome.{Result, ok, no, Found, found, nothing, andThen}
+use Rattle.rules.specs.Outcome.{Result, ok, no, Found, found, nothing}
 use Rattle.rules.specs.Ops.{kind, fieldA, fieldB, opAt}
 use Rattle.rules.specs.Form.{Constant, integer, other, Chunk}
 

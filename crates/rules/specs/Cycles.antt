@@ -1,5 +1,5 @@
 -- "Cycles (`wcet_region`, clamp off)": the cycle walk over the tree of a row, for any charge and any count.
-use mathlib.Core.Bool.{Bool, true, false, cond, _&&_}
+use mathlib.Core.Bool.{Bool, true, false, _&&_}
 use Prim.Native.Nat.{ℕ, zero, suc, _+_, _*_, min, max}
 use lib.Dec.{eqb}
 use Rattle.rules.specs.Outcome.{Result, ok, no, andThen}

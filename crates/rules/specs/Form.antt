@@ -2,7 +2,7 @@
 use mathlib.Core.Path.{_≡_}
 use mathlib.Core.Bool.{true}
 use mathlib.Core.List.{List, [], _∷_, _++_, flatMap}
-use Prim.Native.Nat.{ℕ, suc, _+_, _*_, _-_, _/_, _%_, _^_, _<_, _≤_}
+use Prim.Native.Nat.{ℕ, suc, _-_, _/_, _%_, _^_, _<_, _≤_}
 use lib.IntN.{ℤ, pos, negsuc}
 use lib.ListN.{length}
 use lib.Signed.{mag}

@@ -1,5 +1,5 @@
 -- How an answer or a refusal is written in every definition ("Refusing").
-use Prim.Native.Nat.{ℕ, zero, suc}
+use Prim.Native.Nat.{ℕ}
 use mathlib.Core.Bool.{Bool, true, false}
 
 -- Inside one chunk: a value, or a refusal by its number and its place.

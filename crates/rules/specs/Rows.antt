@@ -2,11 +2,11 @@
 use mathlib.Core.Path.{_≡_}
 use mathlib.Core.Bool.{Bool, true, false, cond, _&&_, _||_}
 use mathlib.Core.List.{List, [], _∷_}
-use Prim.Native.Nat.{ℕ, zero, suc, _+_, _-_, _<_, _≤_, max}
+use Prim.Native.Nat.{ℕ, zero, suc, _-_, _<_, max}
 use lib.Dec.{eqb, leb, ltb}
 use lib.ListN.{length}
-use Rattle.rules.specs.Outcome.{Result, ok, no, Found, found, nothing, andThen, demand}
-use Rattle.rules.specs.Ops.{kind, fieldA, fieldB, opAt}
+use Rattle.rules.specs.Outcome.{Result, ok, no, Found, found, nothing, andThen}
+use Rattle.rules.specs.Ops.{kind, fieldA, opAt}
 use Rattle.rules.specs.Form.{Chunk}
 
 -- What rows, walks and paths ask of an op: where it may lead.

@@ -1,13 +1,12 @@
 -- "Refusing": what each entry point answers, its tests in document 01's order, and what it leaves in a lent tray.
-use mathlib.Core.Bool.{Bool, true, false, cond}
 use mathlib.Core.List.{List, [], _∷_, _++_, map}
-use Prim.Native.Nat.{ℕ, zero, suc, _*_}
+use Prim.Native.Nat.{ℕ, _*_}
 use lib.Dec.{leb, ltb}
-use lib.ListN.{length, getD, set, drop, replicate}
-use Rattle.rules.specs.Outcome.{Result, ok, no, Outcome, answer, refused, andThen, followedBy, inChunk, demand}
+use lib.ListN.{length, set, drop, replicate}
+use Rattle.rules.specs.Outcome.{Result, ok, Outcome, answer, refused, andThen, followedBy, inChunk, demand}
 use Rattle.rules.specs.Form.{Chunk}
 use Rattle.rules.specs.Reading.{read}
-use Rattle.rules.specs.Rows.{Row, chunkRow}
+use Rattle.rules.specs.Rows.{chunkRow}
 use Rattle.rules.specs.Count.{countOf}
 use Rattle.rules.specs.Cycles.{Cost, Cycles, chunkCycles, cappedCost, cycleCap}
 use Rattle.rules.specs.Stack.{Stack, chunkStack, rowStack}

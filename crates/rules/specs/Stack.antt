@@ -1,7 +1,7 @@
 -- "Stack (`wcmu_region`, heap left out)": the operand-stack walk over the tree of a row, for any effect of an op and any count.
-use mathlib.Core.Bool.{Bool, true, false, cond, _||_}
+use mathlib.Core.Bool.{Bool, true, false, cond}
 use mathlib.Core.List.{List}
-use Prim.Native.Nat.{ℕ, zero, suc, _+_, _*_, _/_, max}
+use Prim.Native.Nat.{ℕ, _+_, _*_, _/_, max}
 use lib.Dec.{eqb, leb}
 use lib.IntN.{ℤ, pos, negsuc, _+ℤ_, _-ℤ_}
 use lib.ListN.{getD}
