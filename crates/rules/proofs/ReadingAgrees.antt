@@ -5,7 +5,8 @@ use mathlib.Core.Bool.{Bool, true, false}
 use mathlib.Core.List.{List, [], _∷_}
 use Prim.Native.Nat.{ℕ, _<_, _≤_}
 use native.Mathlib.Omega.{arith}
-use borrow.Author.Tests.{le-leb, lt-leb}
+use borrow.Author.Tests.{le-leb, lt-leb, leb-true}
+use lib.Dec.{leb}
 use lib.ListN.{length}
 use Rattle.rules.specs.Outcome.{Result, ok, no, Found, found, nothing, andThen, demand}
 use Rattle.rules.specs.Ops.{fieldA}
@@ -65,3 +66,12 @@ read-within ws h = simp (le-leb (length ws) 16384 h)
 
 pub read-over : (ws : List ℕ) → 16384 < length ws → read ws ≡ no 1 0
 read-over ws h = simp (lt-leb (length ws) 16384 h)
+
+-- all that a reading within the limit says
+pub read-words : (ws : List ℕ) (cs : List Chunk) → read ws ≡ ok cs → (length ws ≤ 16384) × ModuleFits cs × (moduleWords cs ≡ ws)
+read-words ws cs e = go (leb (length ws) 16384) refl e
+  where
+    go : (b : Bool) → leb (length ws) 16384 ≡ b → andThen (demand b 1 0 ws) (λ vs. readAny vs) ≡ ok cs
+        → (length ws ≤ 16384) × ModuleFits cs × (moduleWords cs ≡ ws)
+    go true t f = let s = read-sound ws cs f in (leb-true (length ws) 16384 t, s .0, s .1)
+    go false t f = absurd (let z : _≡_ {A = ℕ} 0 1 = cc in omega arith)

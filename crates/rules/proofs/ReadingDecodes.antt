@@ -15,7 +15,7 @@ use Rattle.rules.proofs.ReadingParts.{Stops, constant-words, op-words, 
 use Rattle.rules.proofs.ReadingParts.{constants-stop, ops-stop, extras-stop}
 
 -- xs is the longest part whose words pass, ys what is behind it
-abbrev Splits : (ℕ → Bool) → List ℕ → List ℕ → Type 0
+abbrev pub Splits : (ℕ → Bool) → List ℕ → List ℕ → Type 0
 Splits f xs ys = (takeWhile f (xs ++ ys) ≡ xs) × (dropWhile f (xs ++ ys) ≡ ys)
 
 split-part : (f : ℕ → Bool) (xs ys : List ℕ) → Each (λ w. f w ≡ true) xs → Stops f ys → Splits f xs ys
@@ -26,31 +26,31 @@ split-part f (x ∷ xs) ys h s =
     let ih = split-part f xs ys (h .1) s in
     rw (h .0) (ap {B = List ℕ} (λ l. x ∷ l) (ih .0), ih .1)
 
-decode-constants : (ks : List Constant) → Each ConstantFits ks → constantsOf (flatMap constantWords ks) ≡ ks
+pub decode-constants : (ks : List Constant) → Each ConstantFits ks → constantsOf (flatMap constantWords ks) ≡ ks
 unfolding flatMap constantsOf
 decode-constants [] h = refl
 decode-constants (k ∷ ks) h = decode-constant k (h .0) (flatMap constantWords ks) ∙ ap {B = List Constant} (λ l. k ∷ l) (decode-constants ks (h .1))
 
-decode-extras : (xs : List ℕ) → Each (λ x. x < 2 ^ 32) xs → extrasOf (flatMap extraWords xs) ≡ xs
+pub decode-extras : (xs : List ℕ) → Each (λ x. x < 2 ^ 32) xs → extrasOf (flatMap extraWords xs) ≡ xs
 unfolding flatMap extrasOf
 decode-extras [] h = refl
 decode-extras (x ∷ xs) h = decode-extra x (h .0) (flatMap extraWords xs) ∙ ap {B = List ℕ} (λ l. x ∷ l) (decode-extras xs (h .1))
 
 -- one chunk, with others behind it
 module _ (c : Chunk) (cs : List Chunk) (fit : ChunkFits c) (fits : Each ChunkFits cs) where
-  at-constants : Splits ofConstants (flatMap constantWords (c .constants)) (fromOps (c .ops) (c .extras) cs)
+  pub at-constants : Splits ofConstants (flatMap constantWords (c .constants)) (fromOps (c .ops) (c .extras) cs)
   at-constants = split-part ofConstants _ _ (constant-words (c .constants)) (constants-stop cs fits (c .ops) (c .extras) (fit .ops))
 
-  at-ops : Splits ofOps (c .ops) (fromExtras (c .extras) cs)
+  pub at-ops : Splits ofOps (c .ops) (fromExtras (c .extras) cs)
   at-ops = split-part ofOps _ _ (op-words (c .ops) (fit .ops)) (ops-stop cs fits (c .extras))
 
-  at-extras : Splits ofExtras (flatMap extraWords (c .extras)) (flatMap chunkWords cs)
+  pub at-extras : Splits ofExtras (flatMap extraWords (c .extras)) (flatMap chunkWords cs)
   at-extras = split-part ofExtras _ _ (extra-words (c .extras)) (extras-stop cs fits)
 
-  abbrev body : List ℕ
+  abbrev pub body : List ℕ
   body = fromConstants (c .constants) (c .ops) (c .extras) cs
 
-  decode-chunk : chunkOf (word 200 (c .type) (c .locals)) body ≡ c
+  pub decode-chunk : chunkOf (word 200 (c .type) (c .locals)) body ≡ c
   decode-chunk =
       let t : c .type < 256 = omega arith in
       simp (
@@ -65,7 +65,7 @@ module _ (c : Chunk) (cs : List Chunk) (fit : ChunkFits c) (fits : Each ChunkFit
         fieldB-word 200 (c .type) (c .locals) t (fit .locals),
       )
 
-  past-chunk : behindChunk body ≡ flatMap chunkWords cs
+  pub past-chunk : behindChunk body ≡ flatMap chunkWords cs
   past-chunk = simp (at-constants .1, at-ops .1, at-extras .1)
 
 pub decode-chunks : (cs : List Chunk) → Each ChunkFits cs → chunksOf (length cs) (flatMap chunkWords cs) ≡ cs

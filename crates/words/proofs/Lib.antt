@@ -1,0 +1,8 @@
+pub mod Table
+pub mod OpLaws
+pub mod FigureLaws
+pub mod ReaderLaws
+pub mod ValueLaws
+pub mod RunLaws
+pub mod PartLaws
+pub mod LookupLaws

@@ -1,0 +1,81 @@
+use Prim.Native.Nat.{_+_, _-_, _≤_, _<_}
+use mathlib.Core.Path.{_≡_}
+use mathlib.Core.Logic.{⊎-elim}
+use native.Mathlib.Omega.{arith}
+use borrow.Author.Tests.{ltb-true, ltb-false}
+use lib.ListN.{length, drop}
+use Rattle.words.specs.Parts.{runOf}
+use Rattle.words.proofs.RunLaws.{run-more, run-below, run-above, run-end}
+use Rattle.words.proofs.parts.behind_run.Statement.{statement}
+use Rattle.words.proofs.parts.behind_run.Tie as tie
+use Rattle.words.proofs.parts.behind_run.Reads as reads
+use Rattle.words.proofs.parts.behind_run.Lts as lts
+
+abbrev Inv-loop : tie.InvT-loop
+Inv-loop words from low high i₀ i =
+    (from ≤ i) × (i ≤ length words)
+    × (from + length (runOf low high (drop from words)) ≡ i + length (runOf low high (drop i words)))
+
+abbrev μ-loop : tie.MeasureT-loop
+μ-loop words from low high i₀ i = length words - i
+
+-- src/parts.rt:23:5
+loop-holds : tie.Need-loop-holds Inv-loop μ-loop
+loop-holds c = omega arith
+
+-- src/parts.rt:24:20
+mul-kind : tie.Need-mul-kind Inv-loop μ-loop
+mul-kind c = omega arith
+
+-- src/parts.rt:24:20
+shared-slice-read-kind : tie.Need-shared-slice-read-kind Inv-loop μ-loop
+shared-slice-read-kind c = omega arith
+
+-- src/parts.rt:26:13
+returns : tie.Need-returns Inv-loop μ-loop
+returns c =
+    let l = c .before .before in
+    let a = l .before .before .args in
+    let i = l .before .loop .i in
+    let h : i < length (a .words .now) = l .loop-test .taken in
+    ⊎-elim
+    (λ w. omega (arith, run-below (a .low) (a .high) (a .words .now) i h (w .taken)))
+    (λ w. omega (arith, run-above (a .low) (a .high) (a .words .now) i h (w .0 .left) (ltb-true _ _ (w .1 .taken))))
+    (c .if1 .came)
+
+-- src/parts.rt:28:9
+add-i : tie.Need-add-i Inv-loop μ-loop
+add-i c = omega arith
+
+-- src/parts.rt:23:5
+loop-less : tie.Need-loop-less Inv-loop μ-loop
+loop-less c = omega arith
+
+-- src/parts.rt:23:5
+loop-again : tie.Need-loop-again Inv-loop μ-loop
+loop-again c =
+    let l = c .before .before .before in
+    let a = l .before .before .args in
+    let i = l .before .loop .i in
+    omega (arith, run-more (a .low) (a .high) (a .words .now) i (l .loop-test .taken) (c .before .if1 .left) (ltb-false _ _ (c .if2 .left)))
+
+-- src/parts.rt:18:1
+returns-2 : tie.Need-returns-2 Inv-loop μ-loop
+returns-2 c =
+    let a = c .before .before .args in
+    omega (arith, run-end (a .low) (a .high) (a .words .now) (c .before .loop .i) (c .loop-test .left))
+
+pub behind-run-spec : {M : Type 1} → statement M
+behind-run-spec =
+    tie.close
+    (tie.spec
+    Inv-loop
+    μ-loop
+    loop-holds
+    mul-kind
+    shared-slice-read-kind
+    returns
+    add-i
+    loop-less
+    loop-again
+    returns-2)

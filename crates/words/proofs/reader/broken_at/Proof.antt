@@ -1,0 +1,86 @@
+-- `broken_at` finds the place at which the form is broken. Invariant: the rest, read from the stage at hand, is broken where the whole is,
+-- and the stage's counter is at most the position. Measure: the words left. Assumes nothing.
+use mathlib.Core.Path.{_≡_, refl, sym, _∙_}
+use Prim.Native.Nat.{_-_, _≤_}
+use native.Mathlib.Omega.{arith}
+use borrow.Author.Needs.{needs}
+use lib.ListN.{length, drop}
+use Rattle.rules.specs.Reading.{beforeChunk, brokenAt}
+use Rattle.words.specs.Reader.{stageOf, counter}
+use Rattle.words.proofs.ReaderLaws.{goes-on, sticks, ends}
+use Rattle.words.proofs.reader.broken_at.Statement.{statement}
+use Rattle.words.proofs.reader.broken_at.Tie as tie
+
+abbrev Inv-loop : tie.InvT-loop
+Inv-loop words chunks s₀ i₀ s i =
+    (i ≤ length words) × (counter (stageOf s) ≤ i) × (brokenAt (beforeChunk chunks) (drop 1 words) 1 ≡ brokenAt (stageOf s) (drop i words) i)
+
+abbrev μ-loop : tie.MeasureT-loop
+μ-loop words chunks s₀ i₀ s i = length words - i
+
+loop-holds : tie.Need-loop-holds Inv-loop μ-loop
+loop-holds c = (c .before .pre .0, omega arith, refl)
+
+mul-step-on : tie.Need-mul-step-on Inv-loop μ-loop
+mul-step-on c = search needs
+
+shared-slice-read-step-on : tie.Need-shared-slice-read-step-on Inv-loop μ-loop
+shared-slice-read-step-on c = search needs
+
+step-on-requires : tie.Need-step-on-requires Inv-loop μ-loop
+step-on-requires c κs = search needs
+
+enum-known-next : tie.Need-enum-known-next Inv-loop μ-loop
+enum-known-next c = search needs
+
+enum-told : tie.Need-enum-told Inv-loop μ-loop
+enum-told c = search needs
+
+returns : tie.Need-returns Inv-loop μ-loop
+returns c =
+    let e = rw (c .enum-told .given .1) at (c .before .before .step-on .ensures) in
+    sym (c .before .before .before .before .before .loop .inv .2 ∙ sticks _ _ _ (c .before .before .before .before .loop-test .taken) e)
+
+add-i : tie.Need-add-i Inv-loop μ-loop
+add-i c = search needs
+
+loop-less : tie.Need-loop-less Inv-loop μ-loop
+loop-less c = search needs
+
+loop-again : tie.Need-loop-again Inv-loop μ-loop
+loop-again c =
+    let e = rw (c .before .next .given .1) at (c .before .before .before .step-on .ensures) in
+    let inv = c .before .before .before .before .before .before .loop .inv in
+    let more = goes-on _ _ _ _ (c .before .before .before .before .before .loop-test .taken) e (inv .1) in
+    (more .0, more .1, inv .2 ∙ more .2)
+
+may-end-requires : tie.Need-may-end-requires Inv-loop μ-loop
+may-end-requires c κs = search needs
+
+returns-2 : tie.Need-returns-2 Inv-loop μ-loop
+returns-2 c =
+    sym (c .before .before .before .loop .inv .2 ∙ ends _ _ _ (c .before .before .loop-test .left) ∙ rw (← c .before .may-end .ensures, c .if1 .taken))
+
+returns-3 : tie.Need-returns-3 Inv-loop μ-loop
+returns-3 c =
+    sym (c .before .before .before .loop .inv .2 ∙ ends _ _ _ (c .before .before .loop-test .left) ∙ rw (← c .before .may-end .ensures, c .if1 .left))
+
+pub broken-at-spec : {M : Type 1} → statement M
+broken-at-spec =
+    tie.close
+    (tie.spec
+    Inv-loop
+    μ-loop
+    loop-holds
+    mul-step-on
+    shared-slice-read-step-on
+    step-on-requires
+    enum-known-next
+    enum-told
+    returns
+    add-i
+    loop-less
+    loop-again
+    may-end-requires
+    returns-2
+    returns-3)

@@ -1,0 +1,43 @@
+-- `signed_of` meets its contract: from 2^63 on its value is -1 less the inverted bits. Assumes nothing.
+use Prim.Native.Nat.{_-_, _^_, suc}
+use native.Mathlib.Omega.{arith}
+use borrow.Author.Needs.{needs}
+use borrow.Author.Tests.{le-ltb}
+use lib.IntN.{negsuc}
+use mir.Syntax.{w64}
+use mir.Val.{SFits}
+use mir.ValLaws.{toZ-ofZ}
+use Rattle.words.proofs.ValueLaws.{minus-one-less}
+use Rattle.words.proofs.values.signed_of.Statement.{statement}
+use Rattle.words.proofs.values.signed_of.Tie as tie
+
+-- src/values.rt:27:9
+cast-result : tie.Need-cast-result
+cast-result c = search needs
+
+-- src/values.rt:29:16
+sub-result : tie.Need-sub-result
+sub-result c = search needs
+
+-- src/values.rt:29:15
+cast-result-2 : tie.Need-cast-result-2
+cast-result-2 c = search needs
+
+-- src/values.rt:29:9
+sub-result-2 : tie.Need-sub-result-2
+sub-result-2 c = rw (minus-one-less (c .before .args .n) (omega arith) (omega arith)) (record { sfits = omega arith })
+
+-- src/values.rt:23:1
+returns : tie.Need-returns
+returns c = search needs
+
+-- src/values.rt:23:1
+returns-2 : tie.Need-returns-2
+returns-2 c =
+    let n = c .before .args .n in
+    let f : SFits w64 (negsuc (2 ^ 64 - suc n)) = record { sfits = omega arith } in
+    rw (minus-one-less n (omega arith) (omega arith), toZ-ofZ w64 _ f, le-ltb n (2 ^ 63) (c .if1 .left))
+
+pub signed-of-spec : {M : Type 1} → statement M
+signed-of-spec =
+    tie.close (tie.spec cast-result sub-result cast-result-2 sub-result-2 returns returns-2)

@@ -1,0 +1,4 @@
+pub mod Reader
+pub mod Parts
+pub mod Lookup
+pub mod Values

@@ -1,0 +1,9 @@
+// The filed words: fields and figures of an op, the reader, and the parts of a chunk.
+pub mod fields;
+pub mod figures;
+pub mod heads;
+pub mod lookup;
+pub mod parts;
+pub mod reader;
+pub mod units;
+pub mod values;

@@ -1,0 +1,264 @@
+// The reader: whether words are a module, word after word, and if not, where the form is broken.
+use crate::fields::is_op;
+ghost use mathlib.Core.Path.{_≡_};
+ghost use Prim.Native.Nat.{_+_, _≤_, _<_};
+ghost use lib.ListN.{length, drop};
+ghost use Rattle.rules.specs.Reading.{beforeChunk, inConstants, inConstant, inOps, inExtras, inExtra, isHead, isChunk, isConstant, isExtra, chunkNext, constantNext, opNext, extraNext, step, mayEnd, brokenAt};
+ghost use Rattle.rules.specs.Sheet.{readOutcome};
+ghost use Rattle.words.specs.Reader.{readingOutcome, stageOf, nextOf, foundOf, counter};
+
+// The reader's answer: the number of chunks, or refusal 1 or 2 with its place.
+pub enum Reading {
+    Accepted(u32),
+    Refused { number: u32, place: usize },
+}
+
+// Where the reader stands between two words; the last number is that of the chunks still to come.
+pub enum Stage {
+    BeforeChunk(u32),
+    InConstants(u32),
+    InConstant(u32, u32, u32),
+    InOps(u32, u32),
+    InExtras(u32, u32),
+    InExtra(u32, u32),
+}
+
+pub enum Next {
+    Goes(Stage),
+    Stuck,
+}
+
+// A place, if there is one.
+pub enum Found {
+    At(usize),
+    Nothing,
+}
+
+// Kind 199, b 0, and from 1 to 256 chunks.
+fn is_head(w: u32) -> bool
+    ensures { λ r. ⌜ r ≡ isHead w ⌝ }
+{
+    w / 16777216 == 199 && w / 65536 % 256 == 0 && 1 <= w % 65536 && w % 65536 <= 256
+}
+
+// Kind 200, and a type from 0 to 2.
+fn is_chunk(w: u32) -> bool
+    ensures { λ r. ⌜ r ≡ isChunk w ⌝ }
+{
+    w / 16777216 == 200 && w / 65536 % 256 <= 2
+}
+
+// A word of a constant of kind k with this b; where it is no integer, a is 0.
+fn is_constant(k: u32, b: u32, w: u32) -> bool
+    ensures { λ r. ⌜ r ≡ isConstant k b w ⌝ }
+{
+    w / 16777216 == k && w / 65536 % 256 == b && (k == 202 || w % 65536 == 0)
+}
+
+// Half of an extra: the low one has b 0, the high one b 1.
+fn is_extra(b: u32, w: u32) -> bool
+    ensures { λ r. ⌜ r ≡ isExtra b w ⌝ }
+{
+    w / 16777216 == 204 && w / 65536 % 256 == b
+}
+
+// A chunk's head, while chunks are to come.
+fn chunk_next(n: u32, w: u32) -> Next
+    ensures { λ r. ⌜ nextOf r ≡ chunkNext n w ⌝ }
+{
+    if n == 0 {
+        return Next::Stuck;
+    }
+    if is_chunk(w) {
+        Next::Goes(Stage::InConstants(n - 1))
+    } else {
+        Next::Stuck
+    }
+}
+
+// The first word of a constant.
+fn constant_next(n: u32, w: u32) -> Next
+    ensures { λ r. ⌜ nextOf r ≡ constantNext n w ⌝ }
+{
+    if is_constant(202, 0, w) {
+        return Next::Goes(Stage::InConstant(202, 1, n));
+    }
+    if is_constant(203, 0, w) {
+        Next::Goes(Stage::InConstant(203, 1, n))
+    } else {
+        Next::Stuck
+    }
+}
+
+// One op more than k.
+fn op_next(k: u32, n: u32, w: u32) -> Next
+    requires { ⌜ k < 65536 ⌝ }
+    ensures { λ r. ⌜ nextOf r ≡ opNext k n w ⌝ }
+{
+    if is_op(w) {
+        Next::Goes(Stage::InOps(k + 1, n))
+    } else {
+        Next::Stuck
+    }
+}
+
+// The low half of an extra, while k ops have none.
+fn extra_next(k: u32, n: u32, w: u32) -> Next
+    ensures { λ r. ⌜ nextOf r ≡ extraNext k n w ⌝ }
+{
+    if k == 0 {
+        return Next::Stuck;
+    }
+    if is_extra(0, w) {
+        Next::Goes(Stage::InExtra(k - 1, n))
+    } else {
+        Next::Stuck
+    }
+}
+
+// Among the constants: one more, the first op, or the next chunk.
+fn in_constants(n: u32, w: u32) -> Next
+    ensures { λ r. ⌜ nextOf r ≡ step (inConstants n) w ⌝ }
+{
+    let first = constant_next(n, w);
+    let Next::Stuck = first else {
+        return first;
+    };
+    let second = op_next(0, n, w);
+    let Next::Stuck = second else {
+        return second;
+    };
+    chunk_next(n, w)
+}
+
+// Inside a constant: its next word.
+fn in_constant(k: u32, b: u32, n: u32, w: u32) -> Next
+    requires { ⌜ b < 65536 ⌝ }
+    ensures { λ r. ⌜ nextOf r ≡ step (inConstant k b n) w ⌝ }
+{
+    if !is_constant(k, b, w) {
+        return Next::Stuck;
+    }
+    if b == 3 {
+        Next::Goes(Stage::InConstants(n))
+    } else {
+        Next::Goes(Stage::InConstant(k, b + 1, n))
+    }
+}
+
+// Behind k ops: one more, the first extra, or the next chunk.
+fn in_ops(k: u32, n: u32, w: u32) -> Next
+    requires { ⌜ k < 65536 ⌝ }
+    ensures { λ r. ⌜ nextOf r ≡ step (inOps k n) w ⌝ }
+{
+    let first = op_next(k, n, w);
+    let Next::Stuck = first else {
+        return first;
+    };
+    let second = extra_next(k, n, w);
+    let Next::Stuck = second else {
+        return second;
+    };
+    chunk_next(n, w)
+}
+
+// Among the extras: one more, or the next chunk.
+fn in_extras(k: u32, n: u32, w: u32) -> Next
+    ensures { λ r. ⌜ nextOf r ≡ step (inExtras k n) w ⌝ }
+{
+    let first = extra_next(k, n, w);
+    let Next::Stuck = first else {
+        return first;
+    };
+    chunk_next(n, w)
+}
+
+// Behind the low half of an extra: the high half.
+fn in_extra(k: u32, n: u32, w: u32) -> Next
+    ensures { λ r. ⌜ nextOf r ≡ step (inExtra k n) w ⌝ }
+{
+    if is_extra(1, w) {
+        Next::Goes(Stage::InExtras(k, n))
+    } else {
+        Next::Stuck
+    }
+}
+
+// One word more.
+fn step_on(s: Stage, w: u32) -> Next
+    requires { ⌜ counter (stageOf s) < 65536 ⌝ }
+    ensures { λ r. ⌜ nextOf r ≡ step (stageOf s) w ⌝ }
+{
+    match s {
+        Stage::BeforeChunk(n) => chunk_next(n, w),
+        Stage::InConstants(n) => in_constants(n, w),
+        Stage::InConstant(k, b, n) => in_constant(k, b, n, w),
+        Stage::InOps(k, n) => in_ops(k, n, w),
+        Stage::InExtras(k, n) => in_extras(k, n, w),
+        Stage::InExtra(k, n) => in_extra(k, n, w),
+    }
+}
+
+// Whether a module may end here.
+fn may_end(s: Stage) -> bool
+    ensures { λ r. ⌜ r ≡ mayEnd (stageOf s) ⌝ }
+{
+    match s {
+        Stage::BeforeChunk(_) => false,
+        Stage::InConstants(n) => n == 0,
+        Stage::InConstant(_, _, _) => false,
+        Stage::InOps(_, n) => n == 0,
+        Stage::InExtras(_, n) => n == 0,
+        Stage::InExtra(_, _) => false,
+    }
+}
+
+// The place at which the form is broken behind a head that announces this many chunks.
+fn broken_at(words: &[u32], chunks: u32) -> Found
+    requires { ⌜ (1 ≤ length (now words)) × (length (now words) ≤ 16384) ⌝ }
+    ensures { λ r. ⌜ foundOf r ≡ brokenAt (beforeChunk chunks) (drop 1 (now (words .entry))) 1 ⌝ }
+{
+    let mut s = Stage::BeforeChunk(chunks);
+    let mut i = 1;
+    while i < words.len() {
+        let next = step_on(s, words[i]);
+        let Next::Goes(t) = next else {
+            return Found::At(i);
+        };
+        s = t;
+        i += 1;
+    }
+    if may_end(s) {
+        Found::Nothing
+    } else {
+        Found::At(i)
+    }
+}
+
+// Whether the words are a module: the number of its chunks, or refusal 1 or 2 with its place. Each word is looked at once.
+pub fn read_module(words: &[u32]) -> Reading
+    ensures { λ r. ⌜ readingOutcome r ≡ readOutcome (now (words .entry)) ⌝ }
+{
+    let n = words.len();
+    if n == 0 || 16384 < n {
+        return Reading::Refused {
+            number: 1,
+            place: 0,
+        };
+    }
+    let head = words[0];
+    if !is_head(head) {
+        return Reading::Refused {
+            number: 1,
+            place: 0,
+        };
+    }
+    let broken = broken_at(words, head % 65536);
+    match broken {
+        Found::At(i) => Reading::Refused {
+            number: 2,
+            place: i,
+        },
+        Found::Nothing => Reading::Accepted(head % 65536),
+    }
+}
