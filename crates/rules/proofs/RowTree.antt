@@ -158,7 +158,7 @@ no-else op l i to (ifElse j e t p q r) w first k = no-else op l t to r (w .9) (�
 no-else op l i to (loop j e b r) w first k = no-else op l e to r (w .6) (λ m. omega (arith, shape-tells (op e) endLoop (w .4))) k
 
 -- so an arm that ends at EndIf has no Else before it
-no-else-arm : (op : ℕ → ℕ) (l : Bool) (i t : ℕ) (p : Row) → i < t → shapeOf (op i) ≡ ifTo t → IsRow op l (suc i) t p → eqb (kind (op (t - 1))) 22 ≡ false
+pub no-else-arm : (op : ℕ → ℕ) (l : Bool) (i t : ℕ) (p : Row) → i < t → shapeOf (op i) ≡ ifTo t → IsRow op l (suc i) t p → eqb (kind (op (t - 1))) 22 ≡ false
 no-else-arm op l i zero p lt s w = absurd (omega arith)
 no-else-arm op l i (suc e) p lt s w = rw sub-one (ne-eqb _ _ (no-else op l i e p w (λ k. omega (arith, shape-tells (op i) (ifTo (suc e)) s .0))))
 
