@@ -1,0 +1,90 @@
+-- The decisions at an op by the tests that the code makes, on the ops as the code reads them. Assumes nothing.
+use mathlib.Core.Path.{_≡_, refl}
+use mathlib.Core.Bool.{Bool, true, false, cond, _&&_, and-false, or-true}
+use mathlib.Core.List.{List, [], _∷_}
+use Prim.Native.Nat.{ℕ, zero, suc, _+_, _-_, _<_, _≤_}
+use native.Mathlib.Omega.{arith}
+use borrow.Author.Tests.{ltb-true, lt-ltb, le-ltb, le-leb, lt-leb, ne-eqb}
+use lib.Dec.{eqb, leb, ltb}
+use lib.ListN.{length, getD}
+use Rattle.rules.specs.Ops.{kind, fieldA, opAt}
+use Rattle.rows.specs.declared.check.Opening.the-variants.{Plain, Crossed}
+use Rattle.rows.specs.Answers.{blockIf, loopIf, opensIf, opensLoop, opensAt}
+
+-- the op at a position, as the code reads it
+pub op-at : (ops : List ℕ) (i : ℕ) → i < length ops → opAt ops i ≡ getD ops i 0
+op-at [] i h = absurd (omega arith)
+op-at (w ∷ ws) zero h = refl
+op-at (w ∷ ws) (suc i) h = op-at ws i (omega arith)
+
+-- a target that is not in the stretch
+module _ (ops : List ℕ) (i t to : ℕ) where
+  pub if-behind : t ≤ i → Crossed ≡ opensIf (opAt ops) i t to
+  if-behind h = simp (le-ltb i t h)
+
+  pub if-past : to < t → Crossed ≡ opensIf (opAt ops) i t to
+  if-past h = simp (lt-leb t to h, and-false)
+
+  pub loop-behind : t ≤ i + 1 → Crossed ≡ opensLoop (opAt ops) i t to
+  loop-behind h = simp (le-ltb (suc i) t (omega arith))
+
+  pub loop-past : to < t → Crossed ≡ opensLoop (opAt ops) i t to
+  loop-past h = simp (lt-leb t to h, and-false)
+
+-- a target behind the op, in the stretch
+pub record InStretch (ops : List ℕ) (i t to : ℕ) : Type 0 where
+  pub fits : to ≤ length ops
+  pub behind : i < t
+  pub within : t ≤ to
+
+module _ {ops : List ℕ} {i t to : ℕ} (s : InStretch ops i t to) where
+  -- an Else stands before the target
+  module _ (e : kind (getD ops (t - 1) 0) ≡ 22) where
+    at-else : let f = fieldA (getD ops (t - 1) 0) in
+        blockIf (ltb (t - 1) f && ltb f to && eqb (kind (opAt ops f)) 23) (t - 1) ≡ opensIf (opAt ops) i t to
+    at-else = simp (lt-ltb i t (s .behind), le-leb t to (s .within), op-at ops (t - 1) (omega arith), e)
+
+    pub else-behind : fieldA (getD ops (t - 1) 0) ≤ t - 1 → Crossed ≡ opensIf (opAt ops) i t to
+    else-behind h = rw (← at-else) (simp (le-ltb (t - 1) (fieldA (getD ops (t - 1) 0)) h))
+
+    pub else-past : ltb (fieldA (getD ops (t - 1) 0)) to ≡ false → Crossed ≡ opensIf (opAt ops) i t to
+    else-past h = rw (← at-else) (simp (h, and-false))
+
+    pub else-at : let f = fieldA (getD ops (t - 1) 0) in
+        t - 1 < f → ltb f to ≡ true → (c : Bool) → eqb (kind (getD ops f 0)) 23 ≡ c → blockIf c (t - 1) ≡ opensIf (opAt ops) i t to
+    else-at h g c k =
+        let f = fieldA (getD ops (t - 1) 0) in
+        rw (← at-else) (simp (lt-ltb (t - 1) f h, g, op-at ops f (omega (arith, ltb-true f to g)), k))
+
+  module _ (e : kind (getD ops (t - 1) 0) ≡ 22 → ⊥) where
+    no-else : blockIf (ltb t to && eqb (kind (opAt ops t)) 23) t ≡ opensIf (opAt ops) i t to
+    no-else = simp (lt-ltb i t (s .behind), le-leb t to (s .within), op-at ops (t - 1) (omega arith), ne-eqb (kind (getD ops (t - 1) 0)) 22 e)
+
+    pub end-past : to ≤ t → Crossed ≡ opensIf (opAt ops) i t to
+    end-past h = rw (← no-else) (simp (le-ltb t to h))
+
+    pub end-at : t < to → (c : Bool) → eqb (kind (getD ops t 0)) 23 ≡ c → blockIf c t ≡ opensIf (opAt ops) i t to
+    end-at h c k = rw (← no-else) (simp (lt-ltb t to h, op-at ops t (omega arith), k))
+
+  pub loop-at : i + 1 < t → (c : Bool) → eqb (kind (getD ops (t - 1) 0)) 25 ≡ c → loopIf c (t - 1) ≡ opensLoop (opAt ops) i t to
+  loop-at h c k = simp (lt-ltb (suc i) t (omega arith), le-leb t to (s .within), op-at ops (t - 1) (omega arith), k)
+
+-- the decision by the op's kind
+module _ (ops : List ℕ) (i to : ℕ) (l : Bool) (fits : i < length ops) where
+  pub low : kind (getD ops i 0) < 21 → Plain ≡ opensAt (opAt ops) i to l
+  low h = simp (op-at ops i fits, lt-ltb (kind (getD ops i 0)) 21 h)
+
+  pub high : ltb 27 (kind (getD ops i 0)) ≡ true → Plain ≡ opensAt (opAt ops) i to l
+  high h = simp (op-at ops i fits, h, or-true)
+
+  pub at-if : kind (getD ops i 0) ≡ 21 → opensIf (opAt ops) i (fieldA (getD ops i 0)) to ≡ opensAt (opAt ops) i to l
+  at-if k = simp (op-at ops i fits, k)
+
+  pub at-loop : kind (getD ops i 0) ≡ 24 → opensLoop (opAt ops) i (fieldA (getD ops i 0)) to ≡ opensAt (opAt ops) i to l
+  at-loop k = simp (op-at ops i fits, k)
+
+  pub at-other : let k = kind (getD ops i 0) in
+      21 ≤ k → ltb 27 k ≡ false → (k ≡ 21 → ⊥) → (k ≡ 24 → ⊥) → (c : Bool) → leb 26 k && l ≡ c → cond c Plain Crossed ≡ opensAt (opAt ops) i to l
+  at-other a b e f c g =
+      let k = kind (getD ops i 0) in
+      simp (op-at ops i fits, le-ltb k 21 a, b, ne-eqb k 21 e, ne-eqb k 24 f, g)

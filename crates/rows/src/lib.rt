@@ -1,0 +1,3 @@
+// Rows: the walked range of a chunk, forward targets, and the row check.
+pub mod check;
+pub mod range;

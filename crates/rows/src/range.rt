@@ -1,0 +1,92 @@
+// The walked range of a chunk, and forward targets.
+ghost use mathlib.Core.Path.{_≡_};
+ghost use lib.Dec.{eqb};
+ghost use lib.ListN.{length};
+ghost use Rattle.rules.specs.Rows.{firstOf, rangeBy, isBackward, firstBackward};
+ghost use Rattle.rows.specs.Answers.{foundOf, rangeResult};
+
+// A position, if there is one.
+pub enum Found {
+    At(usize),
+    Nothing,
+}
+
+// A stretch of positions, the end not included.
+pub struct Range {
+    pub from: usize,
+    pub to: usize,
+}
+
+// The range, or refusal 3 or 4.
+pub enum RangeAnswer {
+    Is(Range),
+    Refused(u32),
+}
+
+// The first op of a kind.
+fn first_of(ops: &[u32], kind: u32) -> Found
+    ensures { λ r. ⌜ foundOf r ≡ firstOf kind (now (ops .entry)) 0 ⌝ }
+{
+    let mut i = 0;
+    while i < ops.len() {
+        if ops[i] / 16777216 == kind {
+            return Found::At(i);
+        }
+        i += 1;
+    }
+    Found::Nothing
+}
+
+// All ops, or in a Stream chunk (mode 2) those behind the first Stream and before the first Reset.
+pub fn range_of(mode: u32, ops: &[u32]) -> RangeAnswer
+    ensures { λ r. ⌜ rangeResult r ≡ rangeBy (eqb mode 2) (now (ops .entry)) ⌝ }
+{
+    if mode != 2 {
+        return RangeAnswer::Is(Range {
+            from: 0,
+            to: ops.len(),
+        });
+    }
+    let stream = first_of(ops, 28);
+    let Found::At(s) = stream else {
+        return RangeAnswer::Refused(3);
+    };
+    let reset = first_of(ops, 29);
+    let Found::At(r) = reset else {
+        return RangeAnswer::Refused(4);
+    };
+    if r <= s {
+        return RangeAnswer::Is(Range {
+            from: s + 1,
+            to: s + 1,
+        });
+    }
+    RangeAnswer::Is(Range { from: s + 1, to: r })
+}
+
+// The target of the op w at i is not behind it, or past the length n.
+fn is_backward(n: usize, i: usize, w: u32) -> bool
+    ensures { λ r. ⌜ r ≡ isBackward n i w ⌝ }
+{
+    let k = w / 16777216;
+    if k != 21 && k != 22 && k != 24 {
+        return false;
+    }
+    let target = (w % 65536) as usize;
+    target <= i || n < target
+}
+
+// The first If, Else or Loop whose target is not behind it, or past the length.
+pub fn check_forward_control_flow_targets(ops: &[u32]) -> Found
+    ensures { λ r. ⌜ foundOf r ≡ firstBackward (length (now (ops .entry))) 0 (now (ops .entry)) ⌝ }
+{
+    let n = ops.len();
+    let mut i = 0;
+    while i < n {
+        if is_backward(n, i, ops[i]) {
+            return Found::At(i);
+        }
+        i += 1;
+    }
+    Found::Nothing
+}
