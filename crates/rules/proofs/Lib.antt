@@ -1,3 +1,4 @@
+pub mod Flags
 pub mod WordFields
 pub mod ConstantWords
 pub mod ReadingParts
@@ -12,5 +13,14 @@ pub mod RowTree
 pub mod Capped
 pub mod Members
 pub mod CallOrder
+pub mod Answers
+pub mod SheetLines
+pub mod SignedOrder
+pub mod Covered
+pub mod HeightJoins
+pub mod HeightCovers
+pub mod Standing
+pub mod ChunkTop
+pub mod StackBound
 pub mod Checked
 pub mod Witness

@@ -14,11 +14,8 @@ use Rattle.rules.specs.Rows.{Shape, plain, trap, returns, ifTo, elseTo, 
 use Rattle.rules.specs.Rows.{Row, end, step, stop, leave, leaveIf, ifThen, ifElse, loop, Plain, Ending, IsRow, Parsed, row, crossed}
 use Rattle.rules.specs.Rows.{onRow, parsedIf, parseIf, parseElse, parseEither, parseLoop, parseOp, parseIn, parse}
 use Rattle.rules.specs.Rows.{Range, firstOf, orRefuse, rangeBy, rangeOf, orCrossed, rowOf}
+use Rattle.rules.proofs.Flags.{both}
 use Rattle.rules.proofs.Shapes.{shape-tells, end-if-shape, end-loop-shape, else-shape}
-
-both : (a b : Bool) → a && b ≡ true → (a ≡ true) × (b ≡ true)
-both true b e = (refl, e)
-both false b e = (e, cc)
 
 -- what an answered tree tells of the test before it
 passed : (b : Bool) (next : ℕ → Parsed) (i : ℕ) {r : Row} → parsedIf b next i ≡ row r → (b ≡ true) × (next i ≡ row r)

@@ -16,6 +16,7 @@ use Rattle.rules.specs.Count.{countAt, lastSet, arrayLength, neverSets}
 use Rattle.rules.specs.Order.{chunkAt}
 use Rattle.rules.specs.Paths.{Way, on, aside, Entry, Spot, here, over, go, settle, begin, path, pathCycles, pathDepth, opOf, EntryKept, KeepsCounts, depthKept, KeepsDepths}
 use Rattle.rules.specs.Cases.{chunkL}
+use Rattle.rules.proofs.Flags.{both}
 
 -- a test that computes: each op is taken with its innermost entry's passes at most the count, if there is one
 abbrev within : ℕ → Found → Bool
@@ -31,10 +32,6 @@ countsTest cs run s [] = true
 countsTest cs run over (w ∷ ws) = true
 countsTest cs run (here f gs) (w ∷ ws) = entryTest (chunkAt cs (f .chunk)) (f .entries) && countsTest cs run (go cs run f gs w) ws
 
-both-true : (a b : Bool) → (a && b) ≡ true → (a ≡ true) × (b ≡ true)
-both-true true b e = (refl, e)
-both-true false b e = (e, cc)
-
 entry-kept : (cs : List Chunk) (c : Chunk) (k : ℕ) (es : List Entry) → entryTest c es ≡ true → EntryKept cs c k es
 entry-kept cs c k [] t = tt
 entry-kept cs c k (e ∷ es) t = λ reach n is. leb-true (e .passed) n (sym (ap (within (e .passed)) is) ∙ t)
@@ -44,7 +41,7 @@ unfolding countsTest KeepsCounts
 keeps-counts cs run s [] t = tt
 keeps-counts cs run over (w ∷ ws) t = tt
 keeps-counts cs run (here f gs) (w ∷ ws) t =
-    let p = both-true (entryTest (chunkAt cs (f .chunk)) (f .entries)) _ t in
+    let p = both (entryTest (chunkAt cs (f .chunk)) (f .entries)) _ t in
     (entry-kept cs (chunkAt cs (f .chunk)) (f .chunk) (f .entries) (p .0), keeps-counts cs run (go cs run f gs w) ws (p .1))
 
 -- the same for the depths: each whole pass and break on the way leaves at most the depth at its entry
@@ -59,7 +56,7 @@ keeps-depths cs run s [] t = tt
 keeps-depths cs run over (w ∷ ws) t = tt
 keeps-depths cs run (here f gs) (w ∷ []) t = tt
 keeps-depths cs run (here f gs) (w ∷ v ∷ ws) t =
-    let p = both-true (depthKept cs (shapeOf (opOf cs f)) f w) _ t in
+    let p = both (depthKept cs (shapeOf (opOf cs f)) f w) _ t in
     (p .0, keeps-depths cs run (go cs run f gs w) (v ∷ ws) (p .1))
 
 -- chunk L alone as a module

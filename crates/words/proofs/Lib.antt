@@ -5,4 +5,5 @@ pub mod ReaderLaws
 pub mod ValueLaws
 pub mod RunLaws
 pub mod PartLaws
+pub mod PlaceLaws
 pub mod LookupLaws

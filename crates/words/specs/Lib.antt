@@ -1,4 +1,5 @@
 pub mod Reader
 pub mod Parts
+pub mod Places
 pub mod Lookup
 pub mod Values

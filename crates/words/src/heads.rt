@@ -2,10 +2,11 @@
 use crate::parts::parts_at;
 ghost use mathlib.Core.Path.{_≡_};
 ghost use Prim.Native.Nat.{ℕ, _<_};
-ghost use lib.ListN.{length, getD};
+ghost use lib.ListN.{length};
 ghost use Rattle.rules.specs.Outcome.{ok};
 ghost use Rattle.rules.specs.Reading.{read};
 ghost use Rattle.words.specs.Parts.{chunksIn, headAt};
+ghost use Rattle.words.specs.Places.{PlacedAt};
 
 // The head of one chunk of words that are a module: one pass over the chunks before it.
 pub fn head_of(words: &[u32], c: usize) -> usize
@@ -22,19 +23,38 @@ pub fn head_of(words: &[u32], c: usize) -> usize
     at
 }
 
-// The heads of all chunks of words that are a module of n chunks: one pass in all.
-pub fn chunk_heads(words: &[u32], n: usize) -> [usize; 256]
+// Where the chunks of a module stand, by index: their heads, ops and extras, and their ends.
+pub struct Places {
+    pub heads: [usize; 256],
+    pub ops: [usize; 256],
+    pub extras: [usize; 256],
+    pub ends: [usize; 256],
+}
+
+// The places of all chunks of words that are a module of n chunks: each chunk's parts are found once, in one pass in all.
+pub fn chunk_places(words: &[u32], n: usize) -> Places
     requires { ⌜ (read (now words) ≡ ok (chunksIn (now words))) × (n ≡ length (chunksIn (now words))) ⌝ }
-    ensures { λ r. ⌜ ((k : ℕ) → k < length (chunksIn (now (words .entry))) → getD r k 0 ≡ headAt (chunksIn (now (words .entry))) k) ⌝ }
+    ensures { λ r. ⌜ ((k : ℕ) → k < n → PlacedAt (now (words .entry)) r k) ⌝ }
 {
     let mut heads = [0usize; 256];
+    let mut ops = [0usize; 256];
+    let mut extras = [0usize; 256];
+    let mut ends = [0usize; 256];
     let mut at = 1;
     let mut i = 0;
     while i < n {
-        heads[i] = at;
         let p = parts_at(words, at);
+        heads[i] = at;
+        ops[i] = p.ops;
+        extras[i] = p.extras;
+        ends[i] = p.end;
         at = p.end;
         i += 1;
     }
-    heads
+    Places {
+        heads,
+        ops,
+        extras,
+        ends,
+    }
 }

@@ -1,0 +1,113 @@
+-- `chunk_places` keeps each chunk's places at its index: the loop has those of the chunks passed, and stands at the next head.
+-- Assumes nothing.
+use Prim.Native.Nat.{ℕ, _≤_, _<_, _-_}
+use mathlib.Core.Path.{_≡_, refl}
+use native.Mathlib.Omega.{arith}
+use Rattle.rules.proofs.ReadingAgrees.{read-words}
+use Rattle.words.specs.Parts.{chunksIn, headAt}
+use Rattle.words.specs.Places.{PlacesAt}
+use Rattle.words.proofs.PartLaws.{first-head, at-within, next-at}
+use Rattle.words.proofs.PlaceLaws.{Sized, places-more}
+use Rattle.words.proofs.heads.chunk_places.Statement.{statement}
+use Rattle.words.proofs.heads.chunk_places.Tie as tie
+use Rattle.words.proofs.heads.chunk_places.Reads as reads
+use Rattle.words.proofs.heads.chunk_places.Lts as lts
+use Rattle.words.proofs.parts.parts_at.Reads as parts-at-reads
+
+abbrev Inv-loop : tie.InvT-loop
+Inv-loop words n heads₀ ops₀ extras₀ ends₀ at₀ i₀ heads ops extras ends at i =
+    (i ≤ n) × Sized heads ops extras ends × (at ≡ headAt (chunksIn words) i) × ((k : ℕ) → k < i → PlacesAt words heads ops extras ends k)
+
+abbrev μ-loop : tie.MeasureT-loop
+μ-loop words n heads₀ ops₀ extras₀ ends₀ at₀ i₀ heads ops extras ends at i = n - i
+
+-- src/heads.rt:45:5
+loop-holds : tie.Need-loop-holds Inv-loop μ-loop
+loop-holds c = (omega arith, record { heads-size = refl; ops-size = refl; extras-size = refl; ends-size = refl }, first-head (chunksIn (c .before .args .words .now)), λ k h. absurd (omega arith))
+
+-- there are at most 256 chunks
+few : (c : tie.In-loop Inv-loop μ-loop) → c .before .loop .i < 256
+few c =
+    let a = c .before .before .before in
+    omega (arith, read-words (a .args .words .now) (chunksIn (a .args .words .now)) (a .pre .0) .1 .most)
+
+-- src/heads.rt:46:13
+parts-at-requires : tie.Need-parts-at-requires Inv-loop μ-loop
+parts-at-requires c κs =
+    let l = c .before in
+    let a = l .before .before in
+    at-within (a .args .words .now) (chunksIn (a .args .words .now)) (a .pre .0) (l .loop .i) (omega arith) (l .loop .at) (l .loop .inv .2)
+
+-- src/heads.rt:47:9
+mul-heads : tie.Need-mul-heads Inv-loop μ-loop
+mul-heads c = omega (arith, few (c .before))
+
+-- src/heads.rt:47:9
+array-write-heads : tie.Need-array-write-heads Inv-loop μ-loop
+array-write-heads c = omega (arith, few (c .before))
+
+-- src/heads.rt:48:9
+mul-ops : tie.Need-mul-ops Inv-loop μ-loop
+mul-ops c = omega (arith, few (c .before))
+
+-- src/heads.rt:48:9
+array-write-ops : tie.Need-array-write-ops Inv-loop μ-loop
+array-write-ops c = omega (arith, few (c .before))
+
+-- src/heads.rt:49:9
+mul-extras : tie.Need-mul-extras Inv-loop μ-loop
+mul-extras c = omega (arith, few (c .before))
+
+-- src/heads.rt:49:9
+array-write-extras : tie.Need-array-write-extras Inv-loop μ-loop
+array-write-extras c = omega (arith, few (c .before))
+
+-- src/heads.rt:50:9
+mul-ends : tie.Need-mul-ends Inv-loop μ-loop
+mul-ends c = omega (arith, few (c .before))
+
+-- src/heads.rt:50:9
+array-write-ends : tie.Need-array-write-ends Inv-loop μ-loop
+array-write-ends c = omega (arith, few (c .before))
+
+-- src/heads.rt:52:9
+add-i : tie.Need-add-i Inv-loop μ-loop
+add-i c = omega arith
+
+-- src/heads.rt:45:5
+loop-less : tie.Need-loop-less Inv-loop μ-loop
+loop-less c = omega arith
+
+-- src/heads.rt:45:5
+loop-again : tie.Need-loop-again Inv-loop μ-loop
+loop-again c =
+    let l = c .before .before in
+    let a = l .before .before in
+    let ws = a .args .words .now in
+    let more = places-more ws (l .loop .inv .1) (l .loop .i) (l .loop .at) _ (few (c .before)) (l .loop .inv .2) (c .parts-at .ensures) (l .loop .inv .3) in
+    (omega arith, more .0, next-at ws (chunksIn ws) (a .pre .0) (l .loop .i) (omega arith) (l .loop .at) _ (l .loop .inv .2) (c .parts-at .ensures), more .1)
+
+-- src/heads.rt:35:1
+returns : tie.Need-returns Inv-loop μ-loop
+returns c k h = c .before .loop .inv .3 k (omega arith)
+
+pub chunk-places-spec : {M : Type 1} → statement M
+chunk-places-spec =
+    tie.close
+    (tie.spec
+    Inv-loop
+    μ-loop
+    loop-holds
+    parts-at-requires
+    mul-heads
+    array-write-heads
+    mul-ops
+    array-write-ops
+    mul-extras
+    array-write-extras
+    mul-ends
+    array-write-ends
+    add-i
+    loop-less
+    loop-again
+    returns)
