@@ -22,5 +22,13 @@ pub mod HeightCovers
 pub mod Standing
 pub mod ChunkTop
 pub mod StackBound
+pub mod Walked
+pub mod Header
+pub mod Moves
+pub mod Reach
+pub mod Safe
+pub mod RowSafe
+pub mod CyclesBound
+pub mod Demand
 pub mod Checked
 pub mod Witness

@@ -1,0 +1,49 @@
+-- Where the plain ops and those that end a path lead, no callee run and no caller behind. Assumes nothing.
+use mathlib.Core.Path.{_≡_, refl}
+use mathlib.Core.Bool.{false}
+use mathlib.Core.List.{List, []}
+use Prim.Native.Nat.{ℕ, suc, _≤_}
+use lib.IntN.{ℤ}
+use Rattle.rules.specs.Ops.{opAt}
+use Rattle.rules.specs.Form.{Chunk}
+use Rattle.rules.specs.Rows.{Shape, plain, trap, returns, ifTo, elseTo, endIf, loopTo, endLoop, breaks, breaksIf, calls, Plain, Ending}
+use Rattle.rules.specs.Order.{chunkAt}
+use Rattle.rules.specs.Paths.{Way, Entry, Frame, over, rangeAt, movedTo, settle, goBy}
+
+-- a frame of chunk c before the op at i
+abbrev pub placed : ℕ → ℕ → ℤ → ℤ → List Entry → Frame
+placed c i d b es = record { chunk = c; at = i; depth = d; base = b; entries = es }
+
+-- the op of chunk c at a position, and the positions of its range
+abbrev pub opIn : List Chunk → ℕ → ℕ → ℕ
+opIn cs c i = opAt (chunkAt cs c .ops) i
+
+abbrev pub Inside : List Chunk → ℕ → ℕ → ℕ → Type 0
+Inside cs c i to = (rangeAt cs c .from ≤ i) × (to ≤ rangeAt cs c .to)
+
+module _ (cs : List Chunk) where
+  pub plain-goes : (s : Shape) → Plain s → (f : Frame) (w : Way) → goBy cs s false f [] w ≡ settle cs (movedTo cs (suc (f .at)) (f .entries) f) []
+  plain-goes plain p f w = refl
+  plain-goes trap p f w = absurd p
+  plain-goes returns p f w = absurd p
+  plain-goes (ifTo t) p f w = absurd p
+  plain-goes (elseTo t) p f w = absurd p
+  plain-goes endIf p f w = absurd p
+  plain-goes (loopTo t) p f w = absurd p
+  plain-goes endLoop p f w = absurd p
+  plain-goes breaks p f w = absurd p
+  plain-goes breaksIf p f w = absurd p
+  plain-goes (calls k) p f w = refl
+
+  pub ending-goes : (s : Shape) → Ending s → (f : Frame) (w : Way) → goBy cs s false f [] w ≡ over
+  ending-goes plain p f w = absurd p
+  ending-goes trap p f w = refl
+  ending-goes returns p f w = refl
+  ending-goes (ifTo t) p f w = absurd p
+  ending-goes (elseTo t) p f w = absurd p
+  ending-goes endIf p f w = absurd p
+  ending-goes (loopTo t) p f w = absurd p
+  ending-goes endLoop p f w = absurd p
+  ending-goes breaks p f w = absurd p
+  ending-goes breaksIf p f w = absurd p
+  ending-goes (calls k) p f w = absurd p
