@@ -6,3 +6,4 @@ pub mod TurnLaws
 pub mod OpenBlocks
 pub mod BlockArray
 pub mod Openings
+pub mod PartRows

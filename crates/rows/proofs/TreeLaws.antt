@@ -16,7 +16,7 @@ use Rattle.rules.proofs.RowTree.{parse-complete, no-else-arm}
 use Rattle.rows.specs.Tree.{HasRow, treeFound, treeOf}
 
 -- a row that is one with no Loop around is one with a Loop around
-with-loop : (op : ℕ → ℕ) (l : Bool) (i to : ℕ) (r : Row) → IsRow op l i to r → IsRow op true i to r
+pub with-loop : (op : ℕ → ℕ) (l : Bool) (i to : ℕ) (r : Row) → IsRow op l i to r → IsRow op true i to r
 with-loop op l i to end w = w
 with-loop op l i to (step j r) w = (w .0, w .1, w .2, with-loop op l (suc i) to r (w .3))
 with-loop op l i to (stop j r) w = (w .0, w .1, w .2, with-loop op l (suc i) to r (w .3))

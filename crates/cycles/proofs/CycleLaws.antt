@@ -1,0 +1,174 @@
+-- How the cycle walk goes on at an op, behind an If, an Else and a Loop, said of plain values: what the functions' proofs cite.
+-- Assumes nothing.
+use mathlib.Core.Path.{_≡_, refl, sym}
+use mathlib.Core.Bool.{Bool, true, false, _&&_}
+use mathlib.Core.List.{List}
+use mathlib.Core.Logic.{_⊎_, ⊎-elim}
+use Prim.Native.Nat.{ℕ, zero, suc, _+_, _-_, _*_, _<_, max}
+use native.Mathlib.Numerals.{sub-one}
+use native.Mathlib.Omega.{arith}
+use Rattle.rules.specs.Outcome.{Result, ok, no, andThen, found, nothing}
+use Rattle.rules.specs.Ops.{opAt}
+use Rattle.rules.specs.Form.{Chunk}
+use Rattle.rules.specs.Rows.{Shape, plain, trap, returns, ifTo, elseTo, endIf, loopTo, endLoop, breaks, breaksIf, calls, shapeOf}
+use Rattle.rules.specs.Rows.{step, stop, leave, leaveIf}
+use Rattle.rules.specs.Count.{countAt, countOf}
+use Rattle.rules.specs.Cycles as R
+use Rattle.rules.specs.Cycles.{rowCost, costs}
+use Rattle.rows.specs.Tree.{HasRow}
+use Rattle.rows.proofs.TreeLaws.{OpensAs, Behind, BreakAt, IfAt, ElseAt, LoopAt, tree-empty}
+use Rattle.rows.proofs.Openings.{opened}
+use Rattle.cycles.specs.declared.sums.Breaks.{Breaks}
+use Rattle.cycles.specs.declared.region.Cost.{Cost}
+use Rattle.cycles.specs.Answers.{breaksFrom, breaksOf, costOf, chunkOf, capCharge, chargeAt, regionCost, partCost}
+use Rattle.cycles.specs.Steps.{cut, stepResult, ifTail, armsTail, elseTail, loopTail, onCharge, endsOr, joined, passOnce, onePassAt}
+
+-- a body with a level left
+pub part-some : (c : Chunk) (from to left : ℕ) (b : R.Breaks) {k : Result R.Cost} → (left ≡ 0 → ⊥) → k ≡ regionCost c from to (left - 1) 0 b → k ≡ partCost c from to left b
+part-some c from to zero b h e = absurd (h refl)
+part-some c from to (suc l) b h e = rw sub-one at e
+
+-- an empty stretch
+pub region-end : (c : Chunk) (i to left cost : ℕ) (b : R.Breaks) → i ≡ to → ok (costs cost false b) ≡ regionCost c i to left cost b
+unfolding rowCost
+region-end c i to left cost b e = rw (e, tree-empty (opAt (c .ops)) to)
+
+module _ (constants ops extras : List ℕ) where
+  abbrev C : Chunk
+  C = chunkOf constants ops extras
+
+  -- a charge as the code has it is the definition's, cut
+  pub charge-is : (i x : ℕ) → ok x ≡ chargeAt ops extras i → (d : ℕ) × (R.chargeOf C i ≡ ok d) × (x ≡ cut d)
+  charge-is i x e = go (R.chargeOf C i) e
+    where
+      go : (r : Result ℕ) → ok x ≡ capCharge r → (d : ℕ) × (r ≡ ok d) × (x ≡ cut d)
+      go (ok d) f = (d, refl, cc)
+      go (no n p) f = absurd (let z : _≡_ {A = ℕ} 0 1 = cc in omega arith)
+
+  pub charge-open : (i : ℕ) → no 8 i ≡ chargeAt ops extras i → R.chargeOf C i ≡ no 8 i
+  charge-open i e = go (R.chargeOf C i) e
+    where
+      go : (r : Result ℕ) → no 8 i ≡ capCharge r → r ≡ no 8 i
+      go (ok d) f = absurd (let z : _≡_ {A = ℕ} 0 1 = cc in omega arith)
+      go (no n p) f = sym f
+
+  module _ (i to left cost : ℕ) (b : R.Breaks) where
+    -- an op with open text refuses, whatever it is
+    pub open-text : HasRow (opAt ops) true i to → i < to → R.chargeOf C i ≡ no 8 i → regionCost C i to left cost b ≡ no 8 i
+    unfolding rowCost
+    open-text h lt e = go (shapeOf (opAt ops i)) (opened (opAt ops) true i to h lt)
+      where
+        go : (s : Shape) → OpensAs (opAt ops) true i to s → regionCost C i to left cost b ≡ no 8 i
+        go plain o = rw (o .tree, e)
+        go trap o = rw (o .tree, e)
+        go returns o = rw (o .tree, e)
+        go (ifTo t) o = ⊎-elim (λ a. rw (a .tree, e)) (λ a. rw (a .tree, e)) o
+        go (elseTo f) o = absurd o
+        go endIf o = absurd o
+        go (loopTo t) o = rw (o .tree, e)
+        go endLoop o = absurd o
+        go breaks o = rw (o .behind .tree, e)
+        go breaksIf o = rw (o .behind .tree, e)
+        go (calls k) o = rw (o .tree, e)
+
+    -- the op's charge x is in hand
+    module _ (x d : ℕ) (charged : R.chargeOf C i ≡ ok d) (is : x ≡ cut d) where
+      pub behind-plain : Behind (opAt ops) true i to step → regionCost C (suc i) to left (cut (cost + x)) b ≡ regionCost C i to left cost b
+      unfolding rowCost
+      behind-plain o = rw (o .tree, charged, is)
+
+      pub behind-stop : Behind (opAt ops) true i to stop → ok (costs (cut (cost + x)) true b) ≡ regionCost C i to left cost b
+      unfolding rowCost
+      behind-stop o = rw (o .tree, charged, is)
+
+      pub behind-break : BreakAt (opAt ops) true i to leave → ok (costs (cut (cost + x)) true (R.noteBreak b (cut (cost + x)))) ≡ regionCost C i to left cost b
+      unfolding rowCost
+      behind-break o = rw (o .behind .tree, charged, is)
+
+      pub behind-break-if : BreakAt (opAt ops) true i to leaveIf → regionCost C (suc i) to left (cut (cost + x)) (R.noteBreak b (cut (cost + x))) ≡ regionCost C i to left cost b
+      unfolding rowCost
+      behind-break-if o = rw (o .behind .tree, charged, is)
+
+      pub behind-if : (t : ℕ) → IfAt (opAt ops) true i to t → ifTail C i t to left (cut (cost + x)) b ≡ regionCost C i to left cost b
+      unfolding rowCost
+      behind-if t a = rw (a .tree, charged, is)
+
+      pub behind-else : (e f : ℕ) → ElseAt (opAt ops) true i to e f → elseTail C i e f to left (cut (cost + x)) b ≡ regionCost C i to left cost b
+      unfolding rowCost
+      behind-else e f a = rw (a .tree, charged, is)
+
+      pub behind-loop : (e : ℕ) → LoopAt (opAt ops) true i to e → loopTail C i e to left (cut (cost + x)) b ≡ regionCost C i to left cost b
+      unfolding rowCost
+      behind-loop e a = rw (a .tree, charged, is)
+
+  -- behind an If that was charged, with EndIf at t
+  module _ (i t to left cost : ℕ) (b : R.Breaks) where
+    pub if-refused : (n p : ℕ) → no n p ≡ partCost C (suc i) t left b → no n p ≡ ifTail C i t to left cost b
+    if-refused n p e = rw (← e)
+
+    module _ (arm : R.Cost) (walked : ok arm ≡ partCost C (suc i) t left b) where
+      pub if-open : R.chargeOf C t ≡ no 8 t → no 8 t ≡ ifTail C i t to left cost b
+      if-open e = rw (← walked, e)
+
+      pub if-goes : (y d : ℕ) → R.chargeOf C t ≡ ok d → y ≡ cut d
+          → regionCost C (suc t) to left (cut (cut (cost + arm .cycles) + y)) (arm .breaks) ≡ ifTail C i t to left cost b
+      if-goes y d e is = rw (← walked, e, is)
+
+  -- behind an If that was charged, with Else at e and EndIf at f
+  module _ (i e f to left cost : ℕ) (b : R.Breaks) where
+    pub else-first : (n p : ℕ) → no n p ≡ partCost C (suc i) e left b → no n p ≡ elseTail C i e f to left cost b
+    else-first n p g = rw (← g)
+
+    module _ (arm : R.Cost) (walked : ok arm ≡ partCost C (suc i) e left b) where
+      pub else-second : (n p : ℕ) → no n p ≡ partCost C (suc e) f left (arm .breaks) → no n p ≡ elseTail C i e f to left cost b
+      else-second n p g = rw (← walked, ← g)
+
+      pub else-joins : (other : R.Cost) → ok other ≡ partCost C (suc e) f left (arm .breaks) → armsTail C e f to left cost arm other ≡ elseTail C i e f to left cost b
+      else-joins other g = rw (← walked, ← g)
+
+  -- both arms joined, as a step
+  pub joined-means : (e f to left cost : ℕ) (arm other : Cost) → stepResult C to left (joined ops extras e f cost arm other) ≡ armsTail C e f to left cost (costOf arm) (costOf other)
+  joined-means e f to left cost arm other = go (R.chargeOf C e) (R.chargeOf C f)
+    where
+      closes : (k : Bool) (total : ℕ) → stepResult C to left (endsOr k (suc f) total (other .breaks))
+          ≡ R.unlessEnds k total (breaksOf (other .breaks)) (λ n b. regionCost C (suc f) to left n b)
+      closes true total = refl
+      closes false total = refl
+
+      go : (r s : Result ℕ)
+          → stepResult C to left (onCharge (capCharge r) (λ d. onCharge (capCharge s) (λ g. endsOr (arm .ends && other .ends) (suc f)
+          (cut (cut (cost + max (cut (arm .cycles + d)) (other .cycles)) + g)) (other .breaks))))
+          ≡ andThen r (λ d. andThen s (λ g. R.unlessEnds (arm .ends && other .ends)
+          (cut (cut (cost + max (cut (arm .cycles + cut d)) (other .cycles)) + cut g)) (breaksOf (other .breaks)) (λ n b. regionCost C (suc f) to left n b)))
+      go (ok d) (ok g) = closes (arm .ends && other .ends) _
+      go (ok d) (no n p) = refl
+      go (no n p) s = refl
+
+  -- behind a Loop that was charged, with EndLoop at e
+  module _ (i e to left cost : ℕ) (b : Breaks) where
+    pub loop-refused : (n p : ℕ) → no n p ≡ partCost C (suc i) e left R.unbroken → no n p ≡ loopTail C i e to left cost (breaksOf b)
+    loop-refused n p g = rw (← g)
+
+    module _ (body : Cost) (walked : ok (costOf body) ≡ partCost C (suc i) e left R.unbroken) where
+      -- a body that never reaches its end
+      pub loop-once : body .ends ≡ true → stepResult C to left (onePassAt e cost body b) ≡ loopTail C i e to left cost (breaksOf b)
+      loop-once t = rw (← walked) (go (body .ends) t (body .breaks .met))
+        where
+          go : (k : Bool) → k ≡ true → (m : Bool) → stepResult C to left (passOnce m e cost body b)
+              ≡ R.passesCost cut (R.chargeOf C) (countOf C) k i e (costs (body .cycles) (body .ends) (breaksFrom m (body .breaks .costliest))) cost (breaksOf b)
+              (λ n c. regionCost C (suc e) to left n c)
+          go true q true = refl
+          go true q false = refl
+          go false q m = absurd (let z : _≡_ {A = ℕ} 0 1 = cc in omega arith)
+
+      module _ (goes : body .ends ≡ false) where
+        pub loop-uncounted : nothing ≡ countAt (C .constants) ops i → no 9 i ≡ loopTail C i e to left cost (breaksOf b)
+        loop-uncounted n = rw (← walked, goes, ← n)
+
+        module _ (n : ℕ) (count : found n ≡ countAt (C .constants) ops i) where
+          pub loop-open : R.chargeOf C e ≡ no 8 e → no 8 e ≡ loopTail C i e to left cost (breaksOf b)
+          loop-open g = rw (← walked, goes, ← count, g)
+
+          pub loop-counted : (y d : ℕ) → R.chargeOf C e ≡ ok d → y ≡ cut d
+              → regionCost C (suc e) to left (cut (cost + cut (cut (cut (body .cycles + y) * n) + R.breakCost (breaksOf (body .breaks))))) (breaksOf b) ≡ loopTail C i e to left cost (breaksOf b)
+          loop-counted y d g is = rw (← walked, goes, ← count, g, is)

@@ -1,0 +1,4 @@
+pub mod SumLaws
+pub mod CycleLaws
+pub mod StepLaws
+pub mod EntryLaws

@@ -1,0 +1,72 @@
+-- Products of 32 bits, breaks noted, charges, and the steps that join arms or pass once, said of the values that the code reads.
+-- Assumes nothing.
+use mathlib.Core.Path.{_≡_, sym, _∙_, subst⁻¹}
+use mathlib.Core.Bool.{Bool, true, false, _&&_}
+use mathlib.Core.List.{List}
+use Prim.Native.Nat.{ℕ, suc, _+_, _*_, _^_, _<_, max}
+use native.Mathlib.Nat.{le-of-lt, lt-of-le-of-lt, mul-le-mul-left, mul-lt-mul-of-pos-right}
+use native.Mathlib.Numerals.{add-one}
+use native.Mathlib.Omega.{arith}
+use borrow.Author.Tests.{leb-true, leb-false, eq-eqb, ne-eqb}
+use lib.Dec.{leb}
+use lib.ListN.{length, getD}
+use lib.Pow.{pow-pos, pow-add}
+use Rattle.rules.specs.Ops.{figuresOf}
+use Rattle.rules.specs.Reading.{extrasOf, extraAt}
+use Rattle.rules.specs.Cycles.{costliest, noteBreak}
+use Rattle.rules.specs.Outcome.{ok, no}
+use Rattle.count.proofs.SearchLaws.{read-op}
+use Rattle.cycles.specs.Answers.{breaksFrom, chargeAt}
+use Rattle.cycles.specs.declared.sums.Breaks.{Breaks}
+use Rattle.cycles.specs.declared.region.Cost.{Cost}
+use Rattle.cycles.specs.declared.region.Step.the-variants.{Goes, Refused}
+use Rattle.cycles.specs.Steps.{cut, endedAt, endsOr, joined, onePassAt}
+
+-- the product of two numbers of k bits has at most k + k
+pub below : (k : ℕ) {a b : ℕ} → a < 2 ^ k → b < 2 ^ k → a * b < 2 ^ (k + k)
+below k {a} {b} ha hb =
+    subst⁻¹ (λ (n : ℕ). a * b < n) (pow-add 2 k k)
+    (lt-of-le-of-lt (mul-le-mul-left a (le-of-lt hb)) (mul-lt-mul-of-pos-right ha (pow-pos k)))
+
+-- a break that is no costlier changes nothing; the first one and a costlier one are kept
+module _ (met : Bool) (most cost : ℕ) where
+  pub break-kept : met ≡ true → leb cost most ≡ true → breaksFrom met most ≡ noteBreak (breaksFrom met most) cost
+  break-kept e t = let h = leb-true cost most t in let m : max most cost ≡ most = omega arith in rw (e, m)
+
+  pub break-costlier : met ≡ true → leb cost most ≡ false → costliest cost ≡ noteBreak (breaksFrom met most) cost
+  break-costlier e t = let h = leb-false cost most t in let m : max most cost ≡ cost = omega arith in rw (e, m)
+
+  pub break-first : met ≡ false → costliest cost ≡ noteBreak (breaksFrom met most) cost
+  break-first e = rw e
+
+-- the charge of the op at i, whose extra is x
+module _ (ops extras : List ℕ) (i x : ℕ) (is : x ≡ extraAt (extrasOf extras) i) where
+  pub charge-none : x ≡ 4294967295 → no 8 i ≡ chargeAt ops extras i
+  charge-none e = rw (eq-eqb (extraAt (extrasOf extras) i) 4294967295 (sym is ∙ e))
+
+  pub charge-some : (x ≡ 4294967295 → ⊥) → i < length ops → (own y : ℕ) → own ≡ figuresOf (getD ops i 0) .cycles → y ≡ cut (own + x)
+      → ok y ≡ chargeAt ops extras i
+  charge-some n lt own y e s = rw (ne-eqb (extraAt (extrasOf extras) i) 4294967295 (λ q. n (is ∙ q)), read-op ops i, ← is, ← e, s)
+
+-- a body that never reaches its end
+module _ (e cost s : ℕ) (body : Cost) (b : Breaks) where
+  pub once-ends : body .breaks .met ≡ false → s ≡ cut (cost + body .cycles) → endedAt s b ≡ onePassAt e cost body b
+  once-ends m is = rw (m, is)
+
+  pub once-goes : body .breaks .met ≡ true → (g : ℕ) → g ≡ max (body .cycles) (body .breaks .costliest) → s ≡ cut (cost + g)
+      → Goes (e + 1) s b ≡ onePassAt e cost body b
+  once-goes m g top is = rw (m, is, top, add-one)
+
+-- both arms walked, with Else at e and EndIf at f
+module _ (ops extras : List ℕ) (e f cost : ℕ) (arm other : Cost) where
+  pub join-open : no 8 e ≡ chargeAt ops extras e → Refused 8 e ≡ joined ops extras e f cost arm other
+  join-open o = rw (← o)
+
+  module _ (d : ℕ) (jump : ok d ≡ chargeAt ops extras e) where
+    pub join-open-end : no 8 f ≡ chargeAt ops extras f → Refused 8 f ≡ joined ops extras e f cost arm other
+    join-open-end o = rw (← jump, ← o)
+
+    pub join-total : (g then top sum total : ℕ) → ok g ≡ chargeAt ops extras f → then ≡ cut (arm .cycles + d) → top ≡ max then (other .cycles)
+        → sum ≡ cut (cost + top) → total ≡ cut (sum + g) → (k : Bool) → (arm .ends && other .ends) ≡ k
+        → endsOr k (suc f) total (other .breaks) ≡ joined ops extras e f cost arm other
+    join-total g then top sum total close first most all is k h = rw (← jump, ← close, is, all, most, first, h)

@@ -1,0 +1,47 @@
+-- `one_pass` charges a body that never reaches its end once.
+-- Assumes nothing.
+use mathlib.Core.Path.{_∙_}
+use mathlib.Core.Logic.{⊎-elim}
+use native.Mathlib.Omega.{arith}
+use borrow.Author.Tests.{not-true, not-false}
+use Rattle.cycles.proofs.SumLaws.{once-ends, once-goes}
+use borrow.Author.Needs.{needs}
+use Rattle.cycles.proofs.region.one_pass.Statement.{statement}
+use Rattle.cycles.proofs.region.one_pass.Tie as tie
+
+-- src/region.rt:322:22
+cap-add-requires : tie.Need-cap-add-requires
+cap-add-requires c κs = search needs
+
+-- src/region.rt:322:9
+ended-requires : tie.Need-ended-requires
+ended-requires c κs = search needs
+
+-- src/region.rt:322:9
+returns : tie.Need-returns
+returns c =
+    let k = c .before .before in
+    let a = k .before .before .before .args in
+    c .ended .ensures ∙ once-ends (a .e) (a .cost) _ (a .body) (a .breaks) (not-true _ (k .if1 .taken)) (c .before .cap-add .ensures)
+
+-- src/region.rt:329:16
+add-t10 : tie.Need-add-t10
+add-t10 c = search needs
+
+-- src/region.rt:329:23
+cap-add-requires-2 : tie.Need-cap-add-requires-2
+cap-add-requires-2 c κs = search needs
+
+-- src/region.rt:316:1
+returns-2 : tie.Need-returns-2
+returns-2 c =
+    let m = c .before in
+    let k = m .before .before .before in
+    let a = k .before .before .before .args in
+    once-goes (a .e) (a .cost) _ (a .body) (a .breaks) (not-false _ (k .if1 .left)) _
+    (⊎-elim (λ w. omega arith) (λ w. omega arith) (m .if2 .came)) (c .cap-add2 .ensures)
+
+pub one-pass-spec : {M : Type 1} → statement M
+one-pass-spec =
+    tie.close
+    (tie.spec cap-add-requires ended-requires returns add-t10 cap-add-requires-2 returns-2)

@@ -1,0 +1,139 @@
+-- What each step of the cycle walk asks of a row, and what it gives.
+use mathlib.Core.Path.{_≡_}
+use mathlib.Core.Bool.{Bool, true, false, _&&_}
+use mathlib.Core.List.{List}
+use Prim.Native.Nat.{ℕ, suc, _+_, _-_, _≤_, _<_, min, max}
+use lib.Dec.{eqb}
+use lib.ListN.{length}
+use Rattle.rules.specs.Outcome.{Result, ok, no, andThen}
+use Rattle.rules.specs.Ops.{kind, fieldA, opAt}
+use Rattle.rules.specs.Form.{Chunk}
+use Rattle.rules.specs.Count.{countOf}
+use Rattle.rules.specs.Cycles as R
+use Rattle.rows.specs.Tree.{HasRow}
+use Rattle.cycles.specs.declared.sums.Breaks.{Breaks}
+use Rattle.cycles.specs.declared.region.Cost.{Cost}
+use Rattle.cycles.specs.declared.region.Step.{Step}
+use Rattle.cycles.specs.declared.region.Step.the-variants.{Goes, Ends, Refused}
+use Rattle.cycles.specs.Answers.{breaksOf, costOf, chunkOf, chargeAt, regionCost, partCost}
+
+abbrev pub cut : ℕ → ℕ
+cut n = min R.cycleCap n
+
+-- a row stands from i up to `to`, inside the ops
+pub record RowFits (constants ops extras : List ℕ) (i to : ℕ) : Type 0 where
+  pub within : to ≤ length ops
+  pub short : length ops ≤ 16384
+  pub has-row : HasRow (opAt ops) true i to
+
+-- the same, with an op at i
+pub record StepFits (constants ops extras : List ℕ) (i to : ℕ) : Type 0 where
+  pub here : i < to
+  pub row : RowFits constants ops extras i to
+
+-- with an If at i whose EndIf is at t
+pub record IfFits (constants ops extras : List ℕ) (i t to : ℕ) : Type 0 where
+  pub step : StepFits constants ops extras i to
+  pub is-if : kind (opAt ops i) ≡ 21
+  pub target : t ≡ fieldA (opAt ops i)
+  pub no-else : eqb (kind (opAt ops (t - 1))) 22 ≡ false
+
+-- with an If at i whose Else is at e
+pub record ElseFits (constants ops extras : List ℕ) (i e to : ℕ) : Type 0 where
+  pub step : StepFits constants ops extras i to
+  pub is-if : kind (opAt ops i) ≡ 21
+  pub target : e ≡ fieldA (opAt ops i) - 1
+  pub is-else : kind (opAt ops e) ≡ 22
+
+-- with a Loop at i whose EndLoop is at e
+pub record LoopFits (constants ops extras : List ℕ) (i e to : ℕ) : Type 0 where
+  pub step : StepFits constants ops extras i to
+  pub is-loop : kind (opAt ops i) ≡ 24
+  pub target : e ≡ fieldA (opAt ops i) - 1
+
+-- how a row that ends at `to` goes on from a step
+abbrev pub stepResult : Chunk → ℕ → ℕ → Step → Result R.Cost
+stepResult c to left (Goes j k b) = regionCost c j to left k (breaksOf b)
+stepResult c to left (Ends k) = ok (costOf k)
+stepResult c to left (Refused n p) = no n p
+
+-- a step from i goes on behind i, before a row
+abbrev pub Onward : List ℕ → ℕ → ℕ → Step → Type 0
+Onward ops i to (Goes j k b) = (i < j) × (j ≤ to) × HasRow (opAt ops) true j to
+Onward ops i to (Ends k) = Unit {0}
+Onward ops i to (Refused n p) = Unit {0}
+
+-- a step that gives this result, and goes on
+abbrev pub Means : List ℕ → List ℕ → List ℕ → ℕ → ℕ → ℕ → Result R.Cost → Step → Type 0
+Means constants ops extras i to left result r = (stepResult (chunkOf constants ops extras) to left r ≡ result) × Onward ops i to r
+
+-- the walk from an op on
+abbrev pub StepMeans : List ℕ → List ℕ → List ℕ → ℕ → ℕ → ℕ → ℕ → Breaks → Step → Type 0
+StepMeans constants ops extras i to left cost b r =
+    Means constants ops extras i to left (regionCost (chunkOf constants ops extras) i to left cost (breaksOf b)) r
+
+-- the walk behind an If that was charged: arm, EndIf at t
+abbrev pub ifTail : Chunk → ℕ → ℕ → ℕ → ℕ → ℕ → R.Breaks → Result R.Cost
+ifTail c i t to left cost breaks =
+    andThen (partCost c (suc i) t left breaks)
+    (λ arm. andThen (R.chargeOf c t)
+    (λ d. regionCost c (suc t) to left (cut (cut (cost + arm .cycles) + cut d)) (arm .breaks)))
+
+abbrev pub IfMeans : List ℕ → List ℕ → List ℕ → ℕ → ℕ → ℕ → ℕ → ℕ → Breaks → Step → Type 0
+IfMeans constants ops extras i t to left cost b r =
+    Means constants ops extras i to left (ifTail (chunkOf constants ops extras) i t to left cost (breaksOf b)) r
+
+-- both arms walked: Else at e, EndIf at f
+abbrev pub armsTail : Chunk → ℕ → ℕ → ℕ → ℕ → ℕ → R.Cost → R.Cost → Result R.Cost
+armsTail c e f to left cost arm other =
+    andThen (R.chargeOf c e)
+    (λ d. andThen (R.chargeOf c f)
+    (λ g. R.unlessEnds (arm .ends && other .ends) (cut (cut (cost + max (cut (arm .cycles + cut d)) (other .cycles)) + cut g)) (other .breaks)
+    (λ k b. regionCost c (suc f) to left k b)))
+
+-- the walk behind an If that was charged: first arm, second arm, Else at e, EndIf at f
+abbrev pub elseTail : Chunk → ℕ → ℕ → ℕ → ℕ → ℕ → ℕ → R.Breaks → Result R.Cost
+elseTail c i e f to left cost breaks =
+    andThen (partCost c (suc i) e left breaks)
+    (λ arm. andThen (partCost c (suc e) f left (arm .breaks)) (λ other. armsTail c e f to left cost arm other))
+
+abbrev pub ElseMeans : List ℕ → List ℕ → List ℕ → ℕ → ℕ → ℕ → ℕ → ℕ → Breaks → Step → Type 0
+ElseMeans constants ops extras i e to left cost b r =
+    Means constants ops extras i to left (elseTail (chunkOf constants ops extras) i e (fieldA (opAt ops e)) to left cost (breaksOf b)) r
+
+-- the walk behind a Loop that was charged: body, passes, EndLoop at e
+abbrev pub loopTail : Chunk → ℕ → ℕ → ℕ → ℕ → ℕ → R.Breaks → Result R.Cost
+loopTail c i e to left cost breaks =
+    andThen (partCost c (suc i) e left R.unbroken)
+    (λ body. R.passesCost cut (R.chargeOf c) (countOf c) (body .ends) i e body cost breaks (λ k b. regionCost c (suc e) to left k b))
+
+abbrev pub LoopMeans : List ℕ → List ℕ → List ℕ → ℕ → ℕ → ℕ → ℕ → ℕ → Breaks → Step → Type 0
+LoopMeans constants ops extras i e to left cost b r =
+    Means constants ops extras i to left (loopTail (chunkOf constants ops extras) i e to left cost (breaksOf b)) r
+
+-- a step that ends the row
+abbrev pub endedAt : ℕ → Breaks → Step
+endedAt cost b = Ends (record { cycles = cost; ends = true; breaks = b })
+
+abbrev pub onCharge : Result ℕ → (ℕ → Step) → Step
+onCharge (ok c) next = next c
+onCharge (no n p) next = Refused n p
+
+abbrev pub endsOr : Bool → ℕ → ℕ → Breaks → Step
+endsOr true j cost b = endedAt cost b
+endsOr false j cost b = Goes j cost b
+
+-- both arms walked, as a step
+abbrev pub joined : List ℕ → List ℕ → ℕ → ℕ → ℕ → Cost → Cost → Step
+joined ops extras e f cost arm other =
+    onCharge (chargeAt ops extras e)
+    (λ d. onCharge (chargeAt ops extras f)
+    (λ g. endsOr (arm .ends && other .ends) (suc f) (cut (cut (cost + max (cut (arm .cycles + d)) (other .cycles)) + g)) (other .breaks)))
+
+abbrev pub passOnce : Bool → ℕ → ℕ → Cost → Breaks → Step
+passOnce true e cost body b = Goes (suc e) (cut (cost + max (body .cycles) (body .breaks .costliest))) b
+passOnce false e cost body b = endedAt (cut (cost + body .cycles)) b
+
+-- a body that never reaches its end, as a step
+abbrev pub onePassAt : ℕ → ℕ → Cost → Breaks → Step
+onePassAt e cost body b = passOnce (body .breaks .met) e cost body b

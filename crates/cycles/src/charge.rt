@@ -1,0 +1,26 @@
+// The charge of an op: its cycles and its extra.
+use crate::sums::cap_add;
+use words::figures::cycles;
+use words::values::extra_at;
+ghost use mathlib.Core.Path.{_≡_};
+ghost use Prim.Native.Nat.{_<_};
+ghost use lib.ListN.{length};
+ghost use Rattle.cycles.specs.Answers.{chargeResult, chargeAt};
+
+// A charge, or open text: the greatest extra.
+pub enum Charge {
+    Is(u32),
+    OpenText,
+}
+
+// Cycles plus extra of the op at i.
+pub fn op_wcet_cycles(ops: &[u32], extras: &[u32], i: usize) -> Charge
+    requires { ⌜ i < length (now ops) ⌝ }
+    ensures { λ r. ⌜ chargeResult i r ≡ chargeAt (now (ops .entry)) (now (extras .entry)) i ⌝ }
+{
+    let extra = extra_at(extras, i);
+    if extra == 4294967295 {
+        return Charge::OpenText;
+    }
+    Charge::Is(cap_add(cycles(ops[i]), extra))
+}

@@ -1,0 +1,92 @@
+// The cycle walk of one chunk: an entry point for any words and chunk number.
+use crate::region::Walk;
+use crate::region::wcet_region_at;
+use crate::sums::Breaks;
+use rows::check::RowAnswer;
+use rows::check::chunk_row;
+use words::lookup::Lookup;
+use words::lookup::find_chunk;
+use words::parts::constants_of;
+use words::parts::extras_of;
+use words::parts::ops_of;
+ghost use mathlib.Core.Path.{_≡_};
+ghost use Rattle.rules.specs.Sheet.{cyclesOutcome};
+ghost use Rattle.cycles.specs.Answers.{walkResult, chunkOf};
+ghost use Rattle.cycles.specs.Steps.{RowFits};
+ghost use Rattle.cycles.specs.Entry.{answerOutcome, wholeCost};
+
+// The cycles and whether the row ends, or refusal 1, 2, 12 or 3 to 9.
+pub enum CyclesAnswer {
+    Are {
+        cycles: u32,
+        ends: bool,
+    },
+    Refused {
+        number: u32,
+        chunk: usize,
+        place: usize,
+    },
+}
+
+// The whole range of a chunk, with 256 levels of nesting.
+pub fn wcet_region(constants: &[u32], ops: &[u32], extras: &[u32], from: usize, to: usize) -> Walk
+    requires { ⌜ RowFits (now constants) (now ops) (now extras) from to ⌝ }
+    ensures { λ r. ⌜ walkResult r ≡ wholeCost (chunkOf (now (constants .entry)) (now (ops .entry)) (now (extras .entry))) from to ⌝ }
+{
+    let none = Breaks {
+        met: false,
+        costliest: 0,
+    };
+    wcet_region_at(constants, ops, extras, from, to, 256, none)
+}
+
+// The cycle walk of chunk c.
+pub fn cycle_walk(words: &[u32], c: usize) -> CyclesAnswer
+    ensures { λ r. ⌜ answerOutcome r ≡ cyclesOutcome (now (words .entry)) c ⌝ }
+{
+    let found = find_chunk(words, c);
+    let parts = match found {
+        Lookup::Refused {
+            number,
+            chunk,
+            place,
+        } => {
+            return CyclesAnswer::Refused {
+                number,
+                chunk,
+                place,
+            };
+        }
+        Lookup::At(p) => p,
+    };
+    let ops = ops_of(words, parts);
+    let row = chunk_row(parts.mode, ops);
+    let range = match row {
+        RowAnswer::Refused { number, place } => {
+            return CyclesAnswer::Refused {
+                number,
+                chunk: c,
+                place,
+            };
+        }
+        RowAnswer::Is(g) => g,
+    };
+    let walk = wcet_region(
+        constants_of(words, parts),
+        ops,
+        extras_of(words, parts),
+        range.from,
+        range.to,
+    );
+    match walk {
+        Walk::Done(cost) => CyclesAnswer::Are {
+            cycles: cost.cycles,
+            ends: cost.ends,
+        },
+        Walk::Refused { number, place } => CyclesAnswer::Refused {
+            number,
+            chunk: c,
+            place,
+        },
+    }
+}

@@ -1,0 +1,330 @@
+// The cycle walk of a row: op after op, with the bodies of its blocks one level deeper.
+use crate::charge::Charge;
+use crate::charge::op_wcet_cycles;
+use crate::sums::Breaks;
+use crate::sums::break_cost;
+use crate::sums::cap_add;
+use crate::sums::cap_mul;
+use crate::sums::note_break;
+use count::bound::Bound;
+use count::bound::extract_loop_iteration_bound;
+ghost use mathlib.Core.Path.{_≡_};
+ghost use Prim.Native.Nat.{_<_};
+ghost use lib.ListN.{length};
+ghost use Rattle.cycles.specs.Answers.{breaksOf, walkResult, partCost, regionCost, chunkOf};
+ghost use Rattle.cycles.specs.Steps.{RowFits, StepFits, IfFits, ElseFits, LoopFits, StepMeans, IfMeans, ElseMeans, LoopMeans, endedAt, joined, onePassAt};
+
+// What the walk of a row gives: its cycles, whether it ends, and the breaks out of the loop around it.
+pub struct Cost {
+    pub cycles: u32,
+    pub ends: bool,
+    pub breaks: Breaks,
+}
+
+// A row's cost, or refusal 7, 8 or 9 with its place.
+pub enum Walk {
+    Done(Cost),
+    Refused { number: u32, place: usize },
+}
+
+// How a row goes on behind an op or a block: at a position with a cost and breaks, or it ends, or a refusal.
+pub enum Step {
+    Goes(usize, u32, Breaks),
+    Ends(Cost),
+    Refused { number: u32, place: usize },
+}
+
+// A cost of a row that ends.
+fn ended(cycles: u32, breaks: Breaks) -> Step
+    ensures { λ r. ⌜ r ≡ endedAt cycles breaks ⌝ }
+{
+    Step::Ends(Cost {
+        cycles,
+        ends: true,
+        breaks,
+    })
+}
+
+// The row from `from` up to `to`, with `left` levels of nesting left inside it and the breaks met so far.
+pub fn wcet_region_at(
+    constants: &[u32],
+    ops: &[u32],
+    extras: &[u32],
+    from: usize,
+    to: usize,
+    left: u16,
+    breaks: Breaks,
+) -> Walk
+    requires { ⌜ RowFits (now constants) (now ops) (now extras) from to ⌝ }
+    ensures { λ r. ⌜ walkResult r ≡ regionCost (chunkOf (now (constants .entry)) (now (ops .entry)) (now (extras .entry))) from to left 0 (breaksOf breaks) ⌝ }
+{
+    let mut i = from;
+    let mut cycles: u32 = 0;
+    let mut met = breaks;
+    while i < to {
+        let step = wcet_step(constants, ops, extras, i, to, left, cycles, met);
+        match step {
+            Step::Goes(next, cost, noted) => {
+                i = next;
+                cycles = cost;
+                met = noted;
+            }
+            Step::Ends(cost) => {
+                return Walk::Done(cost);
+            }
+            Step::Refused { number, place } => {
+                return Walk::Refused { number, place };
+            }
+        }
+    }
+    Walk::Done(Cost {
+        cycles,
+        ends: false,
+        breaks: met,
+    })
+}
+
+// The op at i, or the block that it opens.
+fn wcet_step(
+    constants: &[u32],
+    ops: &[u32],
+    extras: &[u32],
+    i: usize,
+    to: usize,
+    left: u16,
+    cycles: u32,
+    breaks: Breaks,
+) -> Step
+    requires { ⌜ StepFits (now constants) (now ops) (now extras) i to ⌝ }
+    ensures { λ r. ⌜ StepMeans (now (constants .entry)) (now (ops .entry)) (now (extras .entry)) i to left cycles breaks r ⌝ }
+{
+    let charge = op_wcet_cycles(ops, extras, i);
+    let Charge::Is(own) = charge else {
+        return Step::Refused {
+            number: 8,
+            place: i,
+        };
+    };
+    let cost = cap_add(cycles, own);
+    let w = ops[i];
+    let k = w / 16777216;
+    let t = (w % 65536) as usize;
+    if k == 21 {
+        if ops[t - 1] / 16777216 == 22 {
+            return wcet_else(constants, ops, extras, i, t - 1, to, left, cost, breaks);
+        }
+        return wcet_if(constants, ops, extras, i, t, to, left, cost, breaks);
+    }
+    if k == 24 {
+        return wcet_loop(constants, ops, extras, i, t - 1, to, left, cost, breaks);
+    }
+    if k == 31 || k == 50 {
+        return ended(cost, breaks);
+    }
+    if k == 26 {
+        return ended(cost, note_break(breaks, cost));
+    }
+    if k == 27 {
+        return Step::Goes(i + 1, cost, note_break(breaks, cost));
+    }
+    Step::Goes(i + 1, cost, breaks)
+}
+
+// A body, one level deeper.
+fn wcet_part(
+    constants: &[u32],
+    ops: &[u32],
+    extras: &[u32],
+    from: usize,
+    to: usize,
+    left: u16,
+    breaks: Breaks,
+) -> Walk
+    requires { ⌜ RowFits (now constants) (now ops) (now extras) from to ⌝ }
+    ensures { λ r. ⌜ walkResult r ≡ partCost (chunkOf (now (constants .entry)) (now (ops .entry)) (now (extras .entry))) from to left (breaksOf breaks) ⌝ }
+{
+    if left == 0 {
+        return Walk::Refused {
+            number: 7,
+            place: 0,
+        };
+    }
+    wcet_region_at(constants, ops, extras, from, to, left - 1, breaks)
+}
+
+// Behind an If at i, charged already, with EndIf at t: the arm, and EndIf.
+fn wcet_if(
+    constants: &[u32],
+    ops: &[u32],
+    extras: &[u32],
+    i: usize,
+    t: usize,
+    to: usize,
+    left: u16,
+    cost: u32,
+    breaks: Breaks,
+) -> Step
+    requires { ⌜ IfFits (now constants) (now ops) (now extras) i t to ⌝ }
+    ensures { λ r. ⌜ IfMeans (now (constants .entry)) (now (ops .entry)) (now (extras .entry)) i t to left cost breaks r ⌝ }
+{
+    let part = wcet_part(constants, ops, extras, i + 1, t, left, breaks);
+    let arm = match part {
+        Walk::Done(c) => c,
+        Walk::Refused { number, place } => {
+            return Step::Refused { number, place };
+        }
+    };
+    let charge = op_wcet_cycles(ops, extras, t);
+    let Charge::Is(close) = charge else {
+        return Step::Refused {
+            number: 8,
+            place: t,
+        };
+    };
+    let noted = arm.breaks;
+    Step::Goes(t + 1, cap_add(cap_add(cost, arm.cycles), close), noted)
+}
+
+// Behind an If at i, charged already, with Else at e: both arms, Else, and EndIf at Else's target.
+fn wcet_else(
+    constants: &[u32],
+    ops: &[u32],
+    extras: &[u32],
+    i: usize,
+    e: usize,
+    to: usize,
+    left: u16,
+    cost: u32,
+    breaks: Breaks,
+) -> Step
+    requires { ⌜ ElseFits (now constants) (now ops) (now extras) i e to ⌝ }
+    ensures { λ r. ⌜ ElseMeans (now (constants .entry)) (now (ops .entry)) (now (extras .entry)) i e to left cost breaks r ⌝ }
+{
+    let f = (ops[e] % 65536) as usize;
+    let first = wcet_part(constants, ops, extras, i + 1, e, left, breaks);
+    let arm = match first {
+        Walk::Done(c) => c,
+        Walk::Refused { number, place } => {
+            return Step::Refused { number, place };
+        }
+    };
+    let noted = arm.breaks;
+    let second = wcet_part(constants, ops, extras, e + 1, f, left, noted);
+    let other = match second {
+        Walk::Done(c) => c,
+        Walk::Refused { number, place } => {
+            return Step::Refused { number, place };
+        }
+    };
+    join_arms(ops, extras, e, f, cost, arm, other)
+}
+
+// Both arms walked: the greater of then arm and Else, and the else arm; then EndIf. The row ends if both arms do.
+fn join_arms(
+    ops: &[u32],
+    extras: &[u32],
+    e: usize,
+    f: usize,
+    cost: u32,
+    arm: Cost,
+    other: Cost,
+) -> Step
+    requires { ⌜ (e < length (now ops)) × (f < length (now ops)) × (f < 65536) ⌝ }
+    ensures { λ r. ⌜ r ≡ joined (now (ops .entry)) (now (extras .entry)) e f cost arm other ⌝ }
+{
+    let charge = op_wcet_cycles(ops, extras, e);
+    let Charge::Is(jump) = charge else {
+        return Step::Refused {
+            number: 8,
+            place: e,
+        };
+    };
+    let last = op_wcet_cycles(ops, extras, f);
+    let Charge::Is(close) = last else {
+        return Step::Refused {
+            number: 8,
+            place: f,
+        };
+    };
+    let then = cap_add(arm.cycles, jump);
+    let greater = if then < other.cycles {
+        other.cycles
+    } else {
+        then
+    };
+    let total = cap_add(cap_add(cost, greater), close);
+    let noted = other.breaks;
+    if arm.ends && other.ends {
+        return ended(total, noted);
+    }
+    Step::Goes(f + 1, total, noted)
+}
+
+// Behind a Loop at i, charged already, with EndLoop at e: the body and its passes.
+fn wcet_loop(
+    constants: &[u32],
+    ops: &[u32],
+    extras: &[u32],
+    i: usize,
+    e: usize,
+    to: usize,
+    left: u16,
+    cost: u32,
+    breaks: Breaks,
+) -> Step
+    requires { ⌜ LoopFits (now constants) (now ops) (now extras) i e to ⌝ }
+    ensures { λ r. ⌜ LoopMeans (now (constants .entry)) (now (ops .entry)) (now (extras .entry)) i e to left cost breaks r ⌝ }
+{
+    let none = Breaks {
+        met: false,
+        costliest: 0,
+    };
+    let part = wcet_part(constants, ops, extras, i + 1, e, left, none);
+    let body = match part {
+        Walk::Done(c) => c,
+        Walk::Refused { number, place } => {
+            return Step::Refused { number, place };
+        }
+    };
+    if body.ends {
+        return one_pass(e, cost, body, breaks);
+    }
+    let bound = extract_loop_iteration_bound(constants, ops, i);
+    let Bound::Count(n) = bound else {
+        return Step::Refused {
+            number: 9,
+            place: i,
+        };
+    };
+    let charge = op_wcet_cycles(ops, extras, e);
+    let Charge::Is(close) = charge else {
+        return Step::Refused {
+            number: 8,
+            place: e,
+        };
+    };
+    let inner = body.breaks;
+    let passes = cap_mul(cap_add(body.cycles, close), n);
+    Step::Goes(
+        e + 1,
+        cap_add(cost, cap_add(passes, break_cost(inner))),
+        breaks,
+    )
+}
+
+// A body that never reaches EndLoop at e: charged once; without a break it ends the row.
+fn one_pass(e: usize, cost: u32, body: Cost, breaks: Breaks) -> Step
+    requires { ⌜ e < 65536 ⌝ }
+    ensures { λ r. ⌜ r ≡ onePassAt e cost body breaks ⌝ }
+{
+    let inner = body.breaks;
+    if !inner.met {
+        return ended(cap_add(cost, body.cycles), breaks);
+    }
+    let greater = if body.cycles < inner.costliest {
+        inner.costliest
+    } else {
+        body.cycles
+    };
+    Step::Goes(e + 1, cap_add(cost, greater), breaks)
+}
