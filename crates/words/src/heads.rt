@@ -1,4 +1,4 @@
-// Where the heads of a module's chunks stand.
+// Where the chunks of a module stand.
 use crate::parts::parts_at;
 ghost use mathlib.Core.Path.{_≡_};
 ghost use Prim.Native.Nat.{ℕ, _<_};

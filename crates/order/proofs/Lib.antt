@@ -1,0 +1,7 @@
+pub mod MarkLaws
+pub mod ScanLaws
+pub mod VisitLaws
+pub mod OrderLaws
+pub mod CoverLaws
+pub mod TrayLaws
+pub mod AnswerLaws

@@ -1,0 +1,123 @@
+-- What each way out of a chunk's visit shows: no number left, an open chunk, a listed one, a ring inside, and the chunk listed.
+-- Assumes nothing.
+use mathlib.Core.Path.{_≡_, refl, sym, _∙_}
+use mathlib.Core.Bool.{true, false}
+use mathlib.Core.List.{List, [], _∷_, _++_}
+use Prim.Native.Nat.{ℕ, zero, suc, _-_, _<_, _≤_}
+use native.Mathlib.Numerals.{sub-one}
+use native.Mathlib.Omega.{arith}
+use lib.ListN.{length, getD}
+use Rattle.rules.specs.Ops.{kind, fieldA}
+use Rattle.rules.specs.Form.{Chunk}
+use Rattle.rules.specs.Order.{listed, ring, onListed, member, chunkAt, calleesOf, visitEach, visit}
+use Rattle.rules.proofs.ReadingAgrees.{read-words}
+use Rattle.words.specs.Parts.{partsAt, partOf, chunksIn, headAt, PartsOf}
+use Rattle.words.proofs.PartLaws.{chunk-parts}
+use Rattle.order.specs.declared.visit.Search.{Search}
+use Rattle.order.specs.Search.{Readable, Located, Searchable, Shows}
+use Rattle.order.proofs.MarkLaws.{opening, listing, has-room, shows-opening, shows-listing}
+use Rattle.order.proofs.ScanLaws.{Visited, scan, Rest, rest-ring, rest-end}
+
+-- what a visit comes to, by the number that is left and the marks
+module _ (cs : List Chunk) (opened : List ℕ) (c : ℕ) (done : List ℕ) where
+  visit-none : (left : ℕ) → left ≡ 0 → visit cs left opened c done ≡ ring c
+  unfolding visit
+  visit-none left e = rw e
+
+  visit-open : (left : ℕ) → member c opened ≡ true → visit cs left opened c done ≡ ring c
+  unfolding visit
+  visit-open zero e = refl
+  visit-open (suc f) e = simp e
+
+  visit-listed : (left : ℕ) → (left ≡ 0 → ⊥) → member c opened ≡ false → member c done ≡ true → visit cs left opened c done ≡ listed done
+  unfolding visit
+  visit-listed zero some e f = absurd (some refl)
+  visit-listed (suc l) some e f = simp (e, f)
+
+  visit-walks : (left : ℕ) → (left ≡ 0 → ⊥) → member c opened ≡ false → member c done ≡ false
+      → visit cs left opened c done
+      ≡ onListed (visitEach (λ e d. visit cs (left - 1) (c ∷ opened) e d) (length cs) (calleesOf cs c) done) (λ d. listed (d ++ (c ∷ [])))
+  unfolding visit
+  visit-walks zero some e f = absurd (some refl)
+  visit-walks (suc l) some e f = simp (e, f, sub-one)
+
+-- there are at most 256 chunks
+pub few-chunks : {ws : List ℕ} {n : ℕ} → Readable ws n → n ≤ 256
+few-chunks {ws} words = omega (arith, read-words ws (chunksIn ws) (words .reads) .1 .most, words .chunks)
+
+-- the ops of a chunk stand between its places
+module _ {ws ops extras : List ℕ} {n : ℕ} (p : Located ws ops extras n) (c : ℕ) (lt : c < n) where
+  parts : PartsOf ws (partsAt ws (headAt (chunksIn ws) c)) (chunkAt (chunksIn ws) c)
+  parts = chunk-parts ws (chunksIn ws) (p .words .reads) c (rw (p .words .chunks) at lt)
+
+  pub ops-within : getD extras c 0 ≤ length ws
+  ops-within = rw (p .extras-at c lt) (omega (arith, parts .extras-last, parts .within))
+
+  ops-there : partOf (getD ops c 0) (getD extras c 0) ws ≡ chunkAt (chunksIn ws) c .ops
+  ops-there = rw (p .ops-at c lt, p .extras-at c lt) (parts .ops)
+
+-- the visit of a chunk that is open already, or with no number left
+abbrev pub ringed : ℕ → Search → Search
+ringed c s = record { seen = s .seen; active = s .active; order = s .order; count = s .count; ring = c }
+
+module _ {ws ops extras : List ℕ} {n c : ℕ} {s : Search} (p : Searchable ws ops extras n c s) (left : ℕ) where
+  pub visited-none : left ≡ 0 → Visited ws n left c s (ringed c s)
+  visited-none e opened done h = rw (visit-none (chunksIn ws) opened c done left e) (refl, p .chunk)
+
+  pub visited-open : getD (s .active) c false ≡ true → Visited ws n left c s (ringed c s)
+  visited-open e opened done h = rw (visit-open (chunksIn ws) opened c done left (sym (h .active c (p .chunk)) ∙ e)) (refl, p .chunk)
+
+  pub visited-listed : (left ≡ 0 → ⊥) → getD (s .active) c false ≡ false → getD (s .seen) c false ≡ true → Visited ws n left c s s
+  visited-listed some shut e opened done h =
+      rw (visit-listed (chunksIn ws) opened c done left some (sym (h .active c (p .chunk)) ∙ shut) (sym (h .seen c (p .chunk)) ∙ e)) h
+
+-- what is known where the visit of chunk c is opened
+pub record Opens (ws ops extras : List ℕ) (n left c : ℕ) (s : Search) : Type 0 where
+  pub asked : Searchable ws ops extras n c s
+  pub some : left ≡ 0 → ⊥
+  pub shut : getD (s .active) c false ≡ false
+  pub new : getD (s .seen) c false ≡ false
+
+module _ {ws ops extras : List ℕ} {n left c : ℕ} {s : Search} (o : Opens ws ops extras n left c s) where
+  below : c < n
+  below = o .asked .chunk
+
+  few : n ≤ 256
+  few = few-chunks (o .asked .places .words)
+
+  starts : (opened done : List ℕ) → Shows s n opened done → Shows (opening c s) n (c ∷ opened) done
+  starts opened done h = shows-opening n c few s opened done below (sym (h .seen c below) ∙ o .new) h
+
+  -- while the calls are scanned the state shows the open visits, so the callees can be visited, and there is room for the chunk
+  module _ {end i₀ i : ℕ} {t : Search} (rest : Rest ws n (left - 1) c (opening c s) end i₀ i t) where
+    shown : (d : List ℕ) × Shows t n (c ∷ o .asked .opened) d
+    shown =
+        let p = o .asked in
+        let r = rest .gives (p .opened) (p .done) (starts (p .opened) (p .done) (p .shows)) in
+        (r .0, r .1)
+
+    pub inside : (k : ℕ) → k < n → Searchable ws ops extras n k t
+    inside k lt =
+        let p = o .asked in
+        record { places = p .places; chunk = lt; opened = c ∷ p .opened; done = shown .0; shows = shown .1 }
+
+    pub room : t .count < 256
+    room = has-room n c few t (o .asked .opened) (shown .0) (shown .1)
+
+  whole : (opened done : List ℕ) → Shows s n opened done
+      → visit (chunksIn ws) left opened c done ≡ onListed (scan ws n (left - 1) (c ∷ opened) (getD ops c 0) (getD extras c 0) done) (λ d. listed (d ++ (c ∷ [])))
+  whole opened done h =
+      rw (ops-there (o .asked .places) c below, o .asked .places .words .chunks)
+      (visit-walks (chunksIn ws) opened c done left (o .some) (sym (h .active c below) ∙ o .shut) (sym (h .seen c below) ∙ o .new))
+
+  module _ {i : ℕ} {t : Search} (rest : Rest ws n (left - 1) c (opening c s) (getD extras c 0) (getD ops c 0) i t) where
+    pub visited-ring : (u : Search) → i < getD extras c 0 → kind (getD ws i 0) ≡ 30 → fieldA (getD ws i 0) < n
+        → Visited ws n (left - 1) (fieldA (getD ws i 0)) t u → u .ring < 256 → Visited ws n left c s u
+    visited-ring u more call lt visited met opened done h =
+        let r = rest-ring rest u more call lt visited met opened done (starts opened done h) in
+        rw (whole opened done h, r .1) (refl, r .0)
+
+    pub visited-end : getD extras c 0 ≤ i → Visited ws n left c s (listing c t)
+    visited-end over opened done h =
+        let r = rest-end rest over opened done (starts opened done h) in
+        rw (whole opened done h, r .2) (shows-listing n c few t opened (r .0) (r .1) (sym (h .active c below) ∙ o .shut))

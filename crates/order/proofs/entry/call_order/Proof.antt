@@ -1,0 +1,82 @@
+-- `call_order` shows what the visits of all chunks from 0 up come to: the loop's invariant is that the visits from c on give the whole.
+-- Assumes nothing.
+use Prim.Native.Nat.{_-_}
+use mathlib.Core.List.{[]}
+use native.Mathlib.Omega.{arith}
+use borrow.Author.Needs.{needs}
+use Rattle.order.proofs.VisitLaws.{few-chunks}
+use Rattle.order.proofs.OrderLaws.{Walk, walk-begins, walk-on, walk-ring, walk-end}
+use Rattle.order.proofs.entry.call_order.Statement.{statement}
+use Rattle.order.proofs.entry.call_order.Tie as tie
+
+abbrev Inv-loop : tie.InvT-loop
+Inv-loop words ops extras n s₀ c₀ s c = Walk words n c s
+
+abbrev μ-loop : tie.MeasureT-loop
+μ-loop words ops extras n s₀ c₀ s c = n - c
+
+-- the function's entry
+abbrev entry : tie.After-begun Inv-loop μ-loop → tie.Start Inv-loop μ-loop
+entry c = c .before .before .before .before
+
+-- src/entry.rt:33:9
+begun-requires : tie.Need-begun-requires Inv-loop μ-loop
+begun-requires c κs = search needs
+
+-- src/entry.rt:35:5
+loop-holds : tie.Need-loop-holds Inv-loop μ-loop
+loop-holds c =
+    let words = entry c .pre .words in
+    walk-begins words (c .begun .ensures _ (few-chunks words))
+
+-- src/entry.rt:36:59
+add-topo-visit : tie.Need-add-topo-visit Inv-loop μ-loop
+add-topo-visit c = omega (arith, few-chunks (entry (c .before .before) .pre .words))
+
+-- src/entry.rt:36:9
+topo-visit-requires : tie.Need-topo-visit-requires Inv-loop μ-loop
+topo-visit-requires c κs =
+    let l = c .before in
+    record { places = entry (l .before) .pre; chunk = c .loop-test .taken; opened = []; done = l .loop .inv .done; shows = l .loop .inv .shows }
+
+-- src/entry.rt:38:13
+returns : tie.Need-returns Inv-loop μ-loop
+returns c =
+    let v = c .before .before in
+    let i = v .before in
+    walk-ring (i .before .loop .inv) _ (i .loop-test .taken) (v .topo-visit .ensures) (c .if1 .taken)
+
+-- src/entry.rt:40:9
+add-c : tie.Need-add-c Inv-loop μ-loop
+add-c c = search needs
+
+-- src/entry.rt:35:5
+loop-less : tie.Need-loop-less Inv-loop μ-loop
+loop-less c = search needs
+
+-- src/entry.rt:35:5
+loop-again : tie.Need-loop-again Inv-loop μ-loop
+loop-again c =
+    let v = c .before .before in
+    let i = v .before in
+    walk-on (i .before .loop .inv) _ (i .loop-test .taken) (v .topo-visit .ensures) (few-chunks (entry (i .before .before) .pre .words)) (c .if1 .left)
+
+-- src/entry.rt:29:1
+returns-2 : tie.Need-returns-2 Inv-loop μ-loop
+returns-2 c = walk-end (c .before .loop .inv) (c .loop-test .left)
+
+pub call-order-spec : {M : Type 1} → statement M
+call-order-spec =
+    tie.close
+    (tie.spec
+    Inv-loop
+    μ-loop
+    begun-requires
+    loop-holds
+    add-topo-visit
+    topo-visit-requires
+    returns
+    add-c
+    loop-less
+    loop-again
+    returns-2)

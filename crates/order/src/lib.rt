@@ -1,0 +1,3 @@
+// The call order of a module.
+pub mod entry;
+pub mod visit;

@@ -1,0 +1,74 @@
+// The depth-first search over the calls of a module, with its marks in arrays by value.
+ghost use mathlib.Core.Path.{_≡_};
+ghost use mathlib.Core.List.{List, []};
+ghost use Prim.Native.Nat.{ℕ, _≤_};
+ghost use Rattle.rules.specs.Order.{visit};
+ghost use Rattle.words.specs.Parts.{chunksIn};
+ghost use Rattle.order.specs.Search.{Searchable, Shows, Shown};
+
+// The chunks that are listed, those whose visits are open, the list so far and its length, and the chunk that makes the ring, 256 while
+// there is none.
+pub struct Search {
+    pub seen: [bool; 256],
+    pub active: [bool; 256],
+    pub order: [u32; 256],
+    pub count: usize,
+    pub ring: usize,
+}
+
+// Before any chunk is visited.
+pub fn begun() -> Search
+    ensures { λ r. ⌜ ((n : ℕ) → n ≤ 256 → Shows r n [] []) ⌝ }
+{
+    Search {
+        seen: [false; 256],
+        active: [false; 256],
+        order: [0; 256],
+        count: 0,
+        ring: 256,
+    }
+}
+
+// The visit of chunk c of n, whose ops stand from `ops_at` up to `extras_at`: its callees by position, then c itself. `left` falls with
+// each visit inside.
+pub fn topo_visit(
+    words: &[u32],
+    ops_at: &[usize],
+    extras_at: &[usize],
+    n: usize,
+    c: usize,
+    s: Search,
+    left: usize,
+) -> Search
+    requires { ⌜ Searchable (now words) (now «ops_at») (now «extras_at») n c s ⌝ }
+    ensures { λ r. ⌜ ((opened done : List ℕ) → Shows s n opened done → Shown r n opened (visit (chunksIn (now (words .entry))) left opened c done)) ⌝ }
+{
+    let mut t = s;
+    if left == 0 || t.active[c] {
+        t.ring = c;
+        return t;
+    }
+    if t.seen[c] {
+        return t;
+    }
+    t.active[c] = true;
+    let end = extras_at[c];
+    let mut i = ops_at[c];
+    while i < end {
+        let w = words[i];
+        let callee = (w % 65536) as usize;
+        if w / 16777216 == 30 && callee < n {
+            t = topo_visit(words, ops_at, extras_at, n, callee, t, left - 1);
+            if t.ring < 256 {
+                return t;
+            }
+        }
+        i += 1;
+    }
+    t.active[c] = false;
+    t.seen[c] = true;
+    let at = t.count;
+    t.order[at] = c as u32;
+    t.count = at + 1;
+    t
+}
