@@ -1,0 +1,2 @@
+// One line of the sheet.
+pub mod line;

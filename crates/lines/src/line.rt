@@ -1,0 +1,69 @@
+// One line of the sheet: the tests and walks of one chunk.
+use cycles::entry::wcet_region;
+use cycles::region::Walk;
+use rows::check::RowAnswer;
+use rows::check::chunk_row;
+use stack::chunk::StackResult;
+use stack::chunk::compute_chunk_wcmu;
+use words::parts::Parts;
+use words::parts::constants_of;
+use words::parts::extras_of;
+use words::parts::ops_of;
+use words::units::Slots;
+use words::units::StackBytes;
+ghost use mathlib.Core.Path.{_≡_};
+ghost use Rattle.rules.specs.Form.{Chunk};
+ghost use Rattle.rules.specs.Sheet.{chunkLine};
+ghost use Rattle.words.specs.Parts.{PartsOf};
+ghost use Rattle.lines.specs.Line.{lineResult, LineFits};
+
+// A chunk's line: cycles, peak in slots, stack bytes.
+pub struct Line {
+    pub cycles: u32,
+    pub peak: Slots,
+    pub bytes: StackBytes,
+}
+
+// A line, or refusal 3 to 9 or 11 with its place.
+pub enum LineAnswer {
+    Is(Line),
+    Refused { number: u32, place: usize },
+}
+
+// The line of the chunk with these parts, over the stack bytes of its callees: 3, 4, 5, 6, the cycle walk, the stack walk, 11.
+pub fn chunk_line(words: &[u32], p: Parts, callees: &[u32]) -> LineAnswer
+    requires { ⌜ LineFits (now words) p ⌝ }
+    ensures { λ r. ⌜ ((k : Chunk) → PartsOf (now (words .entry)) p k → lineResult r ≡ chunkLine k (now (callees .entry))) ⌝ }
+{
+    let ops = ops_of(words, p);
+    let constants = constants_of(words, p);
+    let row = chunk_row(p.mode, ops);
+    let range = match row {
+        RowAnswer::Is(g) => g,
+        RowAnswer::Refused { number, place } => {
+            return LineAnswer::Refused { number, place };
+        }
+    };
+    let from = range.from;
+    let to = range.to;
+    let walk = wcet_region(constants, ops, extras_of(words, p), from, to);
+    let cost = match walk {
+        Walk::Done(c) => c,
+        Walk::Refused { number, place } => {
+            return LineAnswer::Refused { number, place };
+        }
+    };
+    let stack = compute_chunk_wcmu(constants, ops, callees, p.locals, from, to);
+    match stack {
+        StackResult::Is {
+            peak,
+            delta: _,
+            bytes,
+        } => LineAnswer::Is(Line {
+            cycles: cost.cycles,
+            peak,
+            bytes,
+        }),
+        StackResult::Refused { number, place } => LineAnswer::Refused { number, place },
+    }
+}

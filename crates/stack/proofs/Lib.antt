@@ -1,0 +1,9 @@
+pub mod SignedLaws
+pub mod LevelLaws
+pub mod HeightLaws
+pub mod BoundLaws
+pub mod StackLaws
+pub mod RowLaws
+pub mod BlockLaws
+pub mod StepLaws
+pub mod ChunkLaws

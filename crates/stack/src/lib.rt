@@ -1,0 +1,5 @@
+// The operand-stack walk.
+pub mod chunk;
+pub mod height;
+pub mod level;
+pub mod region;
