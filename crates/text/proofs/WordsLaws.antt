@@ -1,0 +1,55 @@
+-- The words of a list of bytes: how many they are, each by its index, and as they are written, one a turn.
+-- Assumes nothing.
+use mathlib.Core.Path.{_≡_, refl, sym}
+use mathlib.Core.List.{List, [], _∷_}
+use Prim.Native.Nat.{ℕ, zero, suc, _+_, _*_, _/_, _<_, _≤_}
+use native.Mathlib.Nat.{zero-add, suc-add}
+use native.Mathlib.Omega.{arith}
+use lib.ListN.{length, getD, set, take}
+use lib.Seq.{take-all}
+use Rattle.rules.specs.Text.{wordsOf}
+use Rattle.text.specs.Paste.{pasted}
+use Rattle.text.specs.Words.{wordAt, WordsRead}
+use Rattle.text.proofs.PasteLaws.{pasted-front, pasted-beyond, pasted-more}
+
+pub words-length : (bytes : List ℕ) → length (wordsOf bytes) ≡ length bytes / 4
+unfolding wordsOf
+words-length [] = refl
+words-length (a ∷ []) = refl
+words-length (a ∷ b ∷ []) = refl
+words-length (a ∷ b ∷ c ∷ []) = refl
+words-length (a ∷ b ∷ c ∷ d ∷ bytes) = omega (arith, words-length bytes)
+
+-- the bytes of word i + 1 are those of word i behind the first four
+next : (a b c d : ℕ) (bytes : List ℕ) (i : ℕ) → wordAt (a ∷ b ∷ c ∷ d ∷ bytes) (suc i) ≡ wordAt bytes i
+next a b c d bytes i =
+    let e : 4 * suc i ≡ suc (suc (suc (suc (4 * i)))) = omega arith in
+    simp (e, suc-add)
+
+pub word-at : (bytes : List ℕ) (i : ℕ) → i < length bytes / 4 → getD (wordsOf bytes) i 0 ≡ wordAt bytes i
+unfolding wordsOf
+word-at [] i h = absurd (omega arith)
+word-at (a ∷ []) i h = absurd (omega arith)
+word-at (a ∷ b ∷ []) i h = absurd (omega arith)
+word-at (a ∷ b ∷ c ∷ []) i h = absurd (omega arith)
+word-at (a ∷ b ∷ c ∷ d ∷ bytes) zero h = refl
+word-at (a ∷ b ∷ c ∷ d ∷ bytes) (suc i) h = rw (next a b c d bytes i) (word-at bytes i (omega arith))
+
+module _ (bytes words : List ℕ) (fits : length bytes / 4 ≤ length words) where
+  room : 0 + length (wordsOf bytes) ≤ length words
+  room = omega (arith, words-length bytes)
+
+  pub more-words : (i : ℕ) → i < length bytes / 4
+      → set (pasted 0 (take i (wordsOf bytes)) words) i (wordAt bytes i) ≡ pasted 0 (take (i + 1) (wordsOf bytes)) words
+  more-words i h = simp (zero-add, word-at bytes i h) at (pasted-more 0 i (wordsOf bytes) words room (omega (arith, words-length bytes)))
+
+  pub all-words : (i : ℕ) (after : List ℕ) → length bytes / 4 ≤ i → after ≡ pasted 0 (take i (wordsOf bytes)) words
+      → WordsRead bytes words after (length bytes / 4)
+  all-words i after h e =
+      let w : after ≡ pasted 0 (wordsOf bytes) words = rw (take-all i (wordsOf bytes) (omega (arith, words-length bytes))) at e in
+      record {
+        count = refl;
+        all = sym (words-length bytes);
+        front = rw w (simp (zero-add, words-length bytes) at (pasted-front 0 (wordsOf bytes) words room));
+        beyond = rw w (simp (zero-add, words-length bytes) at (pasted-beyond 0 (wordsOf bytes) words room));
+      }

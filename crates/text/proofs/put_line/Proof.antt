@@ -1,0 +1,61 @@
+-- `put_line` writes four fields, of eleven bytes at most each. Assumes nothing.
+use Prim.Native.Nat.{_≤_}
+use native.Mathlib.Omega.{arith}
+use lib.ListN.{length}
+use Rattle.text.specs.Field.{fieldText}
+use Rattle.text.proofs.LineLaws.{short-field, line-put}
+use borrow.Author.Needs.{needs}
+use Rattle.text.proofs.put_line.Statement.{statement}
+use Rattle.text.proofs.put_line.Tie as tie
+
+-- how long the fields are
+sizes : (s : tie.Start) → let a = s .args in
+    (length (fieldText (a .c) 32) ≤ 11) × (length (fieldText (a .cycles) 32) ≤ 11)
+    × (length (fieldText (a .peak) 32) ≤ 11) × (length (fieldText (a .bytes) 10) ≤ 11)
+sizes s = (short-field _ _ (omega arith), short-field _ _ (omega arith), short-field _ _ (omega arith), short-field _ _ (omega arith))
+
+-- src/lib.rt:114:9
+put-field-requires : tie.Need-put-field-requires
+put-field-requires c κs = omega (arith, sizes (c .before .before))
+
+-- src/lib.rt:115:9
+put-field-requires-2 : tie.Need-put-field-requires-2
+put-field-requires-2 c κs = omega (arith, sizes (c .before .before .before .before .before .before))
+
+-- src/lib.rt:116:9
+put-field-requires-3 : tie.Need-put-field-requires-3
+put-field-requires-3 c κs = omega (arith, sizes (c .before .before .before .before .before .before .before .before .before .before))
+
+-- src/lib.rt:117:5
+put-field-requires-4 : tie.Need-put-field-requires-4
+put-field-requires-4 c κs =
+    let second = c .before .before .before .before .before .before .before in
+    omega (arith, sizes (second .before .before .before .before .before .before .before))
+
+-- src/lib.rt:109:1
+same-length : tie.Need-same-length
+same-length c = search needs
+
+-- src/lib.rt:109:1
+returns : tie.Need-returns
+returns c =
+    let third = c .before .before .before .before .before .before in
+    let second = third .before .before .before .before in
+    let first = second .before .before .before .before in
+    let start = first .before .before .before in
+    line-put _ _ _ _ (omega (arith, sizes start))
+    (first .put-field .ensures)
+    (second .put-field2 .ensures)
+    (third .put-field3 .ensures)
+    (c .before .before .put-field4 .ensures)
+
+pub put-line-spec : {M : Type 1} → statement M
+put-line-spec =
+    tie.close
+    (tie.spec
+    put-field-requires
+    put-field-requires-2
+    put-field-requires-3
+    put-field-requires-4
+    same-length
+    returns)

@@ -1,0 +1,65 @@
+-- `put_refused` writes a word and three fields, one of eleven bytes at most and two of 21. Assumes nothing.
+use Prim.Native.Nat.{_≤_}
+use native.Mathlib.Omega.{arith}
+use lib.ListN.{length}
+use Rattle.text.specs.Field.{fieldText}
+use Rattle.text.proofs.LineLaws.{short-field, long-field, refused-put}
+use borrow.Author.Needs.{needs}
+use Rattle.text.proofs.put_refused.Statement.{statement}
+use Rattle.text.proofs.put_refused.Tie as tie
+
+-- how long the fields are
+sizes : (s : tie.Start) → let a = s .args in
+    (length (fieldText (a .number) 32) ≤ 11) × (length (fieldText (a .chunk) 32) ≤ 21) × (length (fieldText (a .place) 10) ≤ 21)
+sizes s = (short-field _ _ (omega arith), long-field _ _ (omega arith), long-field _ _ (omega arith))
+
+-- src/lib.rt:126:36
+slice-aggregate-put-bytes : tie.Need-slice-aggregate-put-bytes
+slice-aggregate-put-bytes c = search needs
+
+-- src/lib.rt:126:9
+put-bytes-requires : tie.Need-put-bytes-requires
+put-bytes-requires c κs = search needs
+
+-- src/lib.rt:127:9
+put-field-requires : tie.Need-put-field-requires
+put-field-requires c κs = omega (arith, sizes (c .before .before .before .before .before .before .before))
+
+-- src/lib.rt:128:9
+put-field-requires-2 : tie.Need-put-field-requires-2
+put-field-requires-2 c κs = omega (arith, sizes (c .before .before .before .before .before .before .before .before .before .before .before))
+
+-- src/lib.rt:129:5
+put-field-requires-3 : tie.Need-put-field-requires-3
+put-field-requires-3 c κs =
+    let first = c .before .before .before .before .before .before .before in
+    omega (arith, sizes (first .before .before .before .before .before .before .before .before))
+
+-- src/lib.rt:121:1
+same-length : tie.Need-same-length
+same-length c = search needs
+
+-- src/lib.rt:121:1
+returns : tie.Need-returns
+returns c =
+    let third = c .before .before .before .before .before .before in
+    let second = third .before .before .before .before in
+    let first = second .before .before .before .before in
+    let start = first .before .before .before .before in
+    refused-put _ _ _ _ _ (omega (arith, sizes start))
+    (first .put-bytes .ensures)
+    (second .put-field .ensures)
+    (third .put-field2 .ensures)
+    (c .before .before .put-field3 .ensures)
+
+pub put-refused-spec : {M : Type 1} → statement M
+put-refused-spec =
+    tie.close
+    (tie.spec
+    slice-aggregate-put-bytes
+    put-bytes-requires
+    put-field-requires
+    put-field-requires-2
+    put-field-requires-3
+    same-length
+    returns)
