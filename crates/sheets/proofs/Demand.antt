@@ -1,0 +1,79 @@
+-- Demand 3 for the entry point's own answer: where the module sheet answers, the numbers in the tray bound every path.
+-- Assumes nothing.
+use mathlib.Core.Path.{_≡_, refl, ap, _∙_}
+use mathlib.Core.Bool.{true, false}
+use mathlib.Core.List.{List, [], _∷_, _++_}
+use Prim.Native.Nat.{ℕ, zero, suc, _+_, _*_, _<_, _≤_, min}
+use native.Mathlib.Omega.{arith}
+use lib.ListN.{length, getD, drop, set, replicate, length-set, length-replicate}
+use Rattle.rules.specs.Outcome.{answer, inChunk}
+use Rattle.rules.specs.Form.{Chunk}
+use Rattle.rules.specs.Reading.{read}
+use Rattle.rules.specs.Cycles.{cycleCap}
+use Rattle.rules.specs.Order.{callOrder, chunkAt}
+use Rattle.rules.specs.Sheet.{Line, noLine, Sheet, chunkLine, bytesList, linesIn, readModule, ringOutcome, sheetOutcome, sheetTray, trayNumbers}
+use Rattle.rules.specs.Paths.{Way, begin, path, pathCycles, pathBytes, KeepsCounts, KeepsDepths}
+use Rattle.rules.specs.Claims.{Accepted}
+use Rattle.rules.proofs.Answers.{from-answer, from-chunk}
+use Rattle.rules.proofs.SheetLines.{accepted-sheet}
+use Rattle.rules.proofs.StackBound.{stack-bounded}
+use Rattle.rules.proofs.Demand.{cycles-bounded}
+use Rattle.words.specs.Parts.{chunksIn}
+
+-- an accepted module's chunks are those of the words
+accepts : (ws : List ℕ) (room : ℕ) (s : Sheet) → sheetOutcome ws room ≡ answer s → Accepted ws room (chunksIn ws) s
+accepts ws room s e =
+    let a = from-answer (readModule ws) _ e in
+    let r = from-chunk 0 (read ws) (a .1) in
+    record { reads = rw r; answers = e }
+
+-- as many lines as chunks
+same-length : (cs : List Chunk) (order : List ℕ) (lines final : List Line) → linesIn order cs lines ≡ answer final → length final ≡ length lines
+unfolding linesIn
+same-length cs [] lines final e = let same : final ≡ lines = cc in rw same
+same-length cs (c ∷ order) lines final e =
+    let a = from-answer (inChunk c (chunkLine (chunkAt cs c) (bytesList lines))) _ e in
+    same-length cs order (set lines c (a .0)) final (a .2) ∙ length-set lines c (a .0)
+
+all-lines : {ws : List ℕ} {room : ℕ} {cs : List Chunk} {s : Sheet} → Accepted ws room cs s → length (s .lines) ≡ length cs
+all-lines {ws} {room} {cs} {s} accepted =
+    let a = from-answer (ringOutcome (callOrder cs)) _ (accepted-sheet accepted) in
+    let b = from-answer (linesIn (a .0) cs (replicate (length cs) noLine)) _ (a .2) in
+    let final : b .0 ≡ s .lines = cc (b .2) in
+    same-length cs (a .0) (replicate (length cs) noLine) (s .lines) (b .1 ∙ ap answer final) ∙ length-replicate (length cs) noLine
+
+-- where a line stands in the tray: its cycles at 3c, its bytes at 3c + 2
+cycles-at : (ls : List Line) (rest : List ℕ) (c : ℕ) → c < length ls → getD (trayNumbers ls ++ rest) (3 * c) 0 ≡ getD ls c noLine .cycles
+unfolding trayNumbers
+cycles-at [] rest c h = absurd (omega arith)
+cycles-at (l ∷ ls) rest zero h = refl
+cycles-at (l ∷ ls) rest (suc c) h =
+    let e : 3 * suc c ≡ suc (suc (suc (3 * c))) = omega arith in
+    rw e (cycles-at ls rest c (omega arith))
+
+bytes-at : (ls : List Line) (rest : List ℕ) (c : ℕ) → c < length ls → getD (trayNumbers ls ++ rest) (3 * c + 2) 0 ≡ getD ls c noLine .bytes
+unfolding trayNumbers
+bytes-at [] rest c h = absurd (omega arith)
+bytes-at (l ∷ ls) rest zero h = refl
+bytes-at (l ∷ ls) rest (suc c) h =
+    let e : 3 * suc c + 2 ≡ suc (suc (suc (3 * c + 2))) = omega arith in
+    rw e (bytes-at ls rest c (omega arith))
+
+module _ (ws tray : List ℕ) (s : Sheet) (answers : sheetOutcome ws (length tray) ≡ answer s) (c : ℕ) (lt : c < length (chunksIn ws)) (ways : List Way) where
+  accepted : Accepted ws (length tray) (chunksIn ws) s
+  accepted = accepts ws (length tray) s answers
+
+  lined : c < length (s .lines)
+  lined = omega (arith, all-lines accepted)
+
+  -- the cycles of every path that keeps its loops' counts, up to the cap, are at most the number at 3c of the tray that is left
+  pub tray-cycles : KeepsCounts (chunksIn ws) false (begin (chunksIn ws) c) ways
+      → min cycleCap (pathCycles (chunksIn ws) (path (chunksIn ws) false (begin (chunksIn ws) c) ways)) ≤ getD (sheetTray (answer s) tray) (3 * c) 0
+  tray-cycles keeps =
+      rw (cycles-at (s .lines) (drop (3 * length (s .lines)) tray) c lined) (cycles-bounded ws (length tray) (chunksIn ws) s accepted c lt ways keeps)
+
+  -- and its stack bytes, callees run, where it keeps its depths, at most the number at 3c + 2
+  pub tray-bytes : KeepsDepths (chunksIn ws) true (begin (chunksIn ws) c) ways
+      → pathBytes (chunksIn ws) c (path (chunksIn ws) true (begin (chunksIn ws) c) ways) ≤ getD (sheetTray (answer s) tray) (3 * c + 2) 0
+  tray-bytes keeps =
+      rw (bytes-at (s .lines) (drop (3 * length (s .lines)) tray) c lined) (stack-bounded ws (length tray) (chunksIn ws) s accepted c lt ways keeps)

@@ -1,0 +1,6 @@
+pub mod LineLaws
+pub mod TrayLaws
+pub mod TurnLaws
+pub mod SheetLaws
+pub mod AnswerLaws
+pub mod Demand

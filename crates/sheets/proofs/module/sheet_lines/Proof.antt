@@ -1,0 +1,200 @@
+-- `sheet_lines` works out the lines of the chunks in call order: the turns from j on give the whole.
+-- Assumes nothing.
+use mathlib.Core.Path.{_≡_, refl, sym, ap, _∙_}
+use Prim.Native.Nat.{_-_, _≤_, _<_}
+use borrow.Author.Needs.{needs}
+use lib.ListN.{getD, take}
+use lib.Seq.{length-take-le}
+use Rattle.rules.specs.Order.{chunkAt}
+use Rattle.rules.specs.Sheet.{chunkLine}
+use Rattle.words.specs.Parts.{chunksIn}
+use Rattle.order.proofs.VisitLaws.{few-chunks}
+use Rattle.lines.specs.Line.{lineResult}
+use native.Mathlib.Omega.{arith}
+use Rattle.sheets.proofs.TurnLaws.{Lined, lined-begins, lined-ends, lined-more, lined-refuses, turn-head, turn-parts, turn-fits}
+use Rattle.sheets.proofs.module.sheet_lines.Statement.{statement}
+use Rattle.sheets.proofs.module.sheet_lines.Tie as tie
+
+abbrev Inv-loop : tie.InvT-loop
+Inv-loop words heads order n cycles₀ peaks₀ bytes₀ j₀ cycles peaks bytes j = Lined words order n j cycles peaks bytes
+
+abbrev μ-loop : tie.MeasureT-loop
+μ-loop words heads order n cycles₀ peaks₀ bytes₀ j₀ cycles peaks bytes j = n - j
+
+-- src/module.rt:104:5
+loop-holds : tie.Need-loop-holds Inv-loop μ-loop
+loop-holds c =
+    let s = c .before .before .before in
+    lined-begins (s .args .words .now) (s .args .order .now) (s .args .n) (few-chunks (s .pre .words)) _ refl refl
+
+-- the function's entry, and the chunk whose turn it is
+abbrev entry : tie.In-loop Inv-loop μ-loop → tie.Start Inv-loop μ-loop
+entry c = c .before .before .before .before .before
+
+few : (c : tie.In-loop Inv-loop μ-loop) → entry c .args .n ≤ 256
+few c = few-chunks (entry c .pre .words)
+
+below : (c : tie.In-loop Inv-loop μ-loop) → getD (entry c .args .order .now) (c .before .loop .j) 0 < entry c .args .n
+below c = entry c .pre .chunks (c .before .loop .j) (c .loop-test .taken)
+
+-- src/module.rt:105:17
+mul-c : tie.Need-mul-c Inv-loop μ-loop
+mul-c c = omega (arith, few c)
+
+-- src/module.rt:105:17
+shared-slice-read-c : tie.Need-shared-slice-read-c Inv-loop μ-loop
+shared-slice-read-c c = omega (arith, c .before .loop-test .taken, entry (c .before) .pre .order-room)
+
+-- src/module.rt:105:17
+cast-c : tie.Need-cast-c Inv-loop μ-loop
+cast-c c = omega (arith, few (c .before), below (c .before))
+
+-- src/module.rt:106:33
+mul-parts-at : tie.Need-mul-parts-at Inv-loop μ-loop
+mul-parts-at c = omega (arith, few (c .before), below (c .before))
+
+-- src/module.rt:106:33
+shared-slice-read-parts-at : tie.Need-shared-slice-read-parts-at Inv-loop μ-loop
+shared-slice-read-parts-at c = omega (arith, entry (c .before .before) .pre .heads-room, below (c .before .before))
+
+-- src/module.rt:106:13
+parts-at-requires : tie.Need-parts-at-requires Inv-loop μ-loop
+parts-at-requires c κs =
+    let i = c .before .before in
+    turn-head (entry i .pre) (i .before .loop .j) (i .loop-test .taken)
+
+-- src/module.rt:107:43
+array-share-prefix-bytes : tie.Need-array-share-prefix-bytes Inv-loop μ-loop
+array-share-prefix-bytes c =
+    let i = c .before .before .before in
+    omega (arith, few i, i .before .loop .inv .bytes-size)
+
+-- src/module.rt:107:43
+slice-aggregate-chunk-line : tie.Need-slice-aggregate-chunk-line Inv-loop μ-loop
+slice-aggregate-chunk-line c = sym (length-take-le _ _ (array-share-prefix-bytes (c .before)))
+
+-- src/module.rt:107:13
+chunk-line-requires : tie.Need-chunk-line-requires Inv-loop μ-loop
+chunk-line-requires c κs =
+    let i = c .before .before .before .before in
+    turn-fits (entry i .pre) (i .before .loop .j) (i .loop-test .taken) _ (c .before .parts-at .ensures)
+
+-- the turn in which the line was asked for, and the line of its chunk
+abbrev inside : tie.After-chunk-line Inv-loop μ-loop → tie.In-loop Inv-loop μ-loop
+inside c = c .before .before .before .before .before
+
+told : (c : tie.After-chunk-line Inv-loop μ-loop)
+    → lineResult (c .chunk-line .result)
+    ≡ chunkLine (chunkAt (chunksIn (entry (inside c) .args .words .now)) (getD (entry (inside c) .args .order .now) (inside c .before .loop .j) 0))
+    (take (entry (inside c) .args .n) (inside c .before .loop .bytes))
+told c =
+    let i = inside c in
+    c .chunk-line .ensures _ (turn-parts (entry i .pre) (i .before .loop .j) (i .loop-test .taken) _ (c .before .before .parts-at .ensures))
+
+-- src/module.rt:109:28
+enum-known-answer : tie.Need-enum-known-answer Inv-loop μ-loop
+enum-known-answer c = search needs
+
+-- src/module.rt:110:35
+enum-known-answer-2 : tie.Need-enum-known-answer-2 Inv-loop μ-loop
+enum-known-answer-2 c = search needs
+
+-- src/module.rt:111:17
+refusal-requires : tie.Need-refusal-requires Inv-loop μ-loop
+refusal-requires c κs = search needs
+
+-- src/module.rt:111:17
+returns : tie.Need-returns Inv-loop μ-loop
+returns c =
+    let k = c .before .before in
+    let l = k .before .before in
+    let i = inside l in
+    c .refusal .ensures _
+    ∙ lined-refuses (i .before .loop .inv) (few i) (entry i .pre .order-room) (i .loop-test .taken) _ _ (sym (ap lineResult (k .answer2 .given .1)) ∙ told l)
+
+-- src/module.rt:114:9
+mul-cycles : tie.Need-mul-cycles Inv-loop μ-loop
+mul-cycles c =
+    let i = inside (c .before .before .before) in
+    omega (arith, few i, below i)
+
+-- src/module.rt:114:9
+array-write-cycles : tie.Need-array-write-cycles Inv-loop μ-loop
+array-write-cycles c =
+    let i = inside (c .before .before .before) in
+    omega (arith, few i, below i)
+
+-- src/module.rt:115:9
+mul-peaks : tie.Need-mul-peaks Inv-loop μ-loop
+mul-peaks c =
+    let i = inside (c .before .before .before) in
+    omega (arith, few i, below i)
+
+-- src/module.rt:115:9
+array-write-peaks : tie.Need-array-write-peaks Inv-loop μ-loop
+array-write-peaks c =
+    let i = inside (c .before .before .before) in
+    omega (arith, few i, below i)
+
+-- src/module.rt:116:9
+mul-bytes : tie.Need-mul-bytes Inv-loop μ-loop
+mul-bytes c =
+    let i = inside (c .before .before .before) in
+    omega (arith, few i, below i)
+
+-- src/module.rt:116:9
+array-write-bytes : tie.Need-array-write-bytes Inv-loop μ-loop
+array-write-bytes c =
+    let i = inside (c .before .before .before) in
+    omega (arith, few i, below i)
+
+-- src/module.rt:117:9
+add-j : tie.Need-add-j Inv-loop μ-loop
+add-j c = search needs
+
+-- src/module.rt:104:5
+loop-less : tie.Need-loop-less Inv-loop μ-loop
+loop-less c = search needs
+
+-- src/module.rt:104:5
+loop-again : tie.Need-loop-again Inv-loop μ-loop
+loop-again c =
+    let k = c .before in
+    let l = k .before .before in
+    let i = inside l in
+    lined-more (i .before .loop .inv) (few i) (entry i .pre .order-room) (i .loop-test .taken) (below i) _ (sym (ap lineResult (k .answer .given .1)) ∙ told l)
+
+-- src/module.rt:96:1
+returns-2 : tie.Need-returns-2 Inv-loop μ-loop
+returns-2 c = lined-ends (c .before .loop .inv) (c .loop-test .left)
+
+pub sheet-lines-spec : {M : Type 1} → statement M
+sheet-lines-spec =
+    tie.close
+    (tie.spec
+    Inv-loop
+    μ-loop
+    loop-holds
+    mul-c
+    shared-slice-read-c
+    cast-c
+    mul-parts-at
+    shared-slice-read-parts-at
+    parts-at-requires
+    array-share-prefix-bytes
+    slice-aggregate-chunk-line
+    chunk-line-requires
+    enum-known-answer
+    enum-known-answer-2
+    refusal-requires
+    returns
+    mul-cycles
+    array-write-cycles
+    mul-peaks
+    array-write-peaks
+    mul-bytes
+    array-write-bytes
+    add-j
+    loop-less
+    loop-again
+    returns-2)

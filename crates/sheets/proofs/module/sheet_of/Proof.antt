@@ -1,0 +1,90 @@
+-- `sheet_of` refuses a ring, and else gives the lines of all chunks in call order.
+-- Assumes nothing.
+use mathlib.Core.Path.{_∙_}
+use native.Mathlib.Omega.{arith}
+use Rattle.order.specs.Search.{Readable}
+use Rattle.order.proofs.VisitLaws.{few-chunks}
+use Rattle.sheets.proofs.SheetLaws.{ring-sheet, lines-sheet, ordering}
+use borrow.Author.Needs.{needs}
+use Rattle.sheets.proofs.module.sheet_of.Statement.{statement}
+use Rattle.sheets.proofs.module.sheet_of.Tie as tie
+
+-- src/module.rt:83:9
+chunk-places-requires : tie.Need-chunk-places-requires
+chunk-places-requires c κs = search needs
+
+-- src/module.rt:87:31
+slice-aggregate-call-order : tie.Need-slice-aggregate-call-order
+slice-aggregate-call-order c = search needs
+
+-- src/module.rt:87:40
+slice-aggregate-call-order-2 : tie.Need-slice-aggregate-call-order-2
+slice-aggregate-call-order-2 c = search needs
+
+-- the places are found, and the search is called
+abbrev placed : tie.After-extras-at2 → tie.After-chunk-places
+placed c = c .before .before .before .before .before
+
+abbrev words : (c : tie.After-chunk-places) → Readable (c .before .before .args .words .now) (c .before .before .args .n)
+words c = c .before .before .pre
+
+-- src/module.rt:87:9
+call-order-requires : tie.Need-call-order-requires
+call-order-requires c κs =
+    let p = placed c in
+    record {
+      words = words p;
+      ops-at = λ k lt. p .chunk-places .ensures k lt .ops-at;
+      extras-at = λ k lt. p .chunk-places .ensures k lt .extras-at;
+      ops-room = omega (arith, few-chunks (words p), slice-aggregate-call-order (c .before));
+      extras-room = omega (arith, few-chunks (words p), slice-aggregate-call-order-2 c);
+    }
+
+-- src/module.rt:89:9
+refusal-requires : tie.Need-refusal-requires
+refusal-requires c κs = search needs
+
+-- src/module.rt:89:9
+returns : tie.Need-returns
+returns c =
+    let o = c .before .before .before in
+    c .refusal .ensures _ ∙ ring-sheet (words (placed (o .before))) _ (o .call-order .ensures) (c .before .if1 .taken)
+
+-- src/module.rt:92:24
+slice-aggregate-sheet-lines : tie.Need-slice-aggregate-sheet-lines
+slice-aggregate-sheet-lines c = search needs
+
+-- src/module.rt:92:32
+slice-aggregate-sheet-lines-2 : tie.Need-slice-aggregate-sheet-lines-2
+slice-aggregate-sheet-lines-2 c = search needs
+
+-- src/module.rt:92:5
+sheet-lines-requires : tie.Need-sheet-lines-requires
+sheet-lines-requires c κs =
+    let e = c .before .before .before in
+    let o = e .before .before in
+    let p = placed (o .before) in
+    ordering (words p) _ (o .call-order .ensures) (e .if1 .left) _ (omega (arith, few-chunks (words p), slice-aggregate-sheet-lines (c .before)))
+    (λ k lt. p .chunk-places .ensures k lt .head)
+
+-- src/module.rt:79:1
+returns-2 : tie.Need-returns-2
+returns-2 c =
+    let e = c .before .before .before .before in
+    let o = e .before .before in
+    c .sheet-lines .ensures ∙ lines-sheet (words (placed (o .before))) _ (o .call-order .ensures) (e .if1 .left)
+
+pub sheet-of-spec : {M : Type 1} → statement M
+sheet-of-spec =
+    tie.close
+    (tie.spec
+    chunk-places-requires
+    slice-aggregate-call-order
+    slice-aggregate-call-order-2
+    call-order-requires
+    refusal-requires
+    returns
+    slice-aggregate-sheet-lines
+    slice-aggregate-sheet-lines-2
+    sheet-lines-requires
+    returns-2)

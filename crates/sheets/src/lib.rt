@@ -1,0 +1,2 @@
+// The module sheet.
+pub mod module;

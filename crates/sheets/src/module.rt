@@ -1,0 +1,157 @@
+// The module sheet: an entry point for any words and any lent tray.
+use lines::line::LineAnswer;
+use lines::line::chunk_line;
+use order::entry::call_order;
+use words::heads::chunk_places;
+use words::parts::parts_at;
+use words::reader::Reading;
+use words::reader::read_module;
+ghost use mathlib.Core.Path.{_≡_};
+ghost use mathlib.Core.List.{_++_};
+ghost use Prim.Native.Nat.{ℕ, _*_, _≤_};
+ghost use lib.ListN.{length, take, drop, replicate};
+ghost use Rattle.rules.specs.Outcome.{refused};
+ghost use Rattle.rules.specs.Sheet.{noLine, linesIn, sheetOf, sheetOutcome, trayNumbers, sheetTray};
+ghost use Rattle.words.specs.Parts.{chunksIn};
+ghost use Rattle.order.specs.Search.{Readable};
+ghost use Rattle.sheets.specs.Module.{lineList, sheetLines, linesOf, answerOutcome, countOf, Ordering};
+
+// A sheet as it is worked out: the figures of the lines by chunk index, or, where it refuses, the refusal.
+pub struct Sheet {
+    pub refuses: bool,
+    pub number: u32,
+    pub chunk: usize,
+    pub place: usize,
+    pub cycles: [u32; 256],
+    pub peaks: [u32; 256],
+    pub bytes: [u32; 256],
+}
+
+// The number of chunks whose lines stand in the tray, or a refusal.
+pub enum SheetAnswer {
+    Lines(u32),
+    Refused {
+        number: u32,
+        chunk: usize,
+        place: usize,
+    },
+}
+
+// The cycles, peak and stack bytes of each chunk of a module into the tray, three numbers a chunk; a refusal writes nothing.
+pub fn module_sheet(words: &[u32], tray: &mut [u32]) -> SheetAnswer
+    ensures answer { λ r. ⌜ answerOutcome r ≡ countOf (sheetOutcome (now (words .entry)) (length (now (tray .entry)))) ⌝ }
+    ensures written { λ r. ⌜ now (tray .exit) ≡ sheetTray (sheetOutcome (now (words .entry)) (length (now (tray .entry)))) (now (tray .entry)) ⌝ }
+{
+    let reading = read_module(words);
+    let n = match reading {
+        Reading::Refused { number, place } => {
+            return SheetAnswer::Refused {
+                number,
+                chunk: 0,
+                place,
+            };
+        }
+        Reading::Accepted(chunks) => chunks as usize,
+    };
+    if tray.len() < 3 * n {
+        return SheetAnswer::Refused {
+            number: 13,
+            chunk: 0,
+            place: 0,
+        };
+    }
+    let sheet = sheet_of(words, n);
+    if sheet.refuses {
+        return SheetAnswer::Refused {
+            number: sheet.number,
+            chunk: sheet.chunk,
+            place: sheet.place,
+        };
+    }
+    let cycles = sheet.cycles;
+    let peaks = sheet.peaks;
+    let bytes = sheet.bytes;
+    fill_tray(&cycles, &peaks, &bytes, n, tray);
+    SheetAnswer::Lines(n as u32)
+}
+
+// The sheet of words that are a module of n chunks: the call order, then chunk after chunk in that order.
+pub fn sheet_of(words: &[u32], n: usize) -> Sheet
+    requires { ⌜ Readable (now words) n ⌝ }
+    ensures { λ r. ⌜ sheetLines n r ≡ linesOf (sheetOf (chunksIn (now (words .entry)))) ⌝ }
+{
+    let places = chunk_places(words, n);
+    let heads = places.heads;
+    let ops_at = places.ops;
+    let extras_at = places.extras;
+    let s = call_order(words, &ops_at, &extras_at, n);
+    if s.ring < 256 {
+        return refusal(10, s.ring, 0);
+    }
+    let order = s.order;
+    sheet_lines(words, &heads, &order, n)
+}
+
+// The lines of the chunks whose heads these are, in call order.
+pub fn sheet_lines(words: &[u32], heads: &[usize], order: &[u32], n: usize) -> Sheet
+    requires { ⌜ Ordering (now words) (now heads) (now order) n ⌝ }
+    ensures { λ r. ⌜ sheetLines n r ≡ linesIn (take n (now (order .entry))) (chunksIn (now (words .entry))) (replicate n noLine) ⌝ }
+{
+    let mut cycles = [0u32; 256];
+    let mut peaks = [0u32; 256];
+    let mut bytes = [0u32; 256];
+    let mut j = 0;
+    while j < n {
+        let c = order[j] as usize;
+        let p = parts_at(words, heads[c]);
+        let answer = chunk_line(words, p, &bytes[..n]);
+        let line = match answer {
+            LineAnswer::Is(l) => l,
+            LineAnswer::Refused { number, place } => {
+                return refusal(number, c, place);
+            }
+        };
+        cycles[c] = line.cycles;
+        peaks[c] = line.peak.0;
+        bytes[c] = line.bytes.0;
+        j += 1;
+    }
+    Sheet {
+        refuses: false,
+        number: 0,
+        chunk: 0,
+        place: 0,
+        cycles,
+        peaks,
+        bytes,
+    }
+}
+
+// A sheet that refuses.
+fn refusal(number: u32, chunk: usize, place: usize) -> Sheet
+    ensures { λ r. ⌜ ((n : ℕ) → sheetLines n r ≡ refused number chunk place) ⌝ }
+{
+    Sheet {
+        refuses: true,
+        number,
+        chunk,
+        place,
+        cycles: [0; 256],
+        peaks: [0; 256],
+        bytes: [0; 256],
+    }
+}
+
+// The first n lines into the tray, three numbers each.
+fn fill_tray(cycles: &[u32], peaks: &[u32], bytes: &[u32], n: usize, tray: &mut [u32])
+    requires { ⌜ (n ≤ length (now cycles)) × (n ≤ length (now peaks)) × (n ≤ length (now bytes)) × (3 * n ≤ length (now tray)) ⌝ }
+    ensures { λ r. ⌜ now (tray .exit) ≡ trayNumbers (lineList n (now (cycles .entry)) (now (peaks .entry)) (now (bytes .entry))) ++ drop (3 * n) (now (tray .entry)) ⌝ }
+{
+    let mut i = 0;
+    while i < n {
+        tray[3 * i] = cycles[i];
+        tray[3 * i + 1] = peaks[i];
+        tray[3 * i + 2] = bytes[i];
+        i += 1;
+    }
+}
