@@ -4,7 +4,6 @@ use mathlib.Core.Path.{_≡_, sym, _∙_}
 use mathlib.Core.List.{List}
 use Prim.Native.Nat.{ℕ}
 use Rattle.rules.specs.Outcome.{ok, no}
-use Rattle.rules.specs.Ops.{opAt}
 use Rattle.rules.specs.Form.{Chunk}
 use Rattle.rules.specs.Rows.{Range}
 use Rattle.rules.specs.Cycles as R
@@ -12,24 +11,14 @@ use Rattle.rules.specs.Stack as T
 use Rattle.rules.specs.Sheet.{lineOf, chunkLine}
 use Rattle.words.specs.declared.parts.Parts.{Parts}
 use Rattle.words.specs.Parts.{partOf, PartsOf}
-use Rattle.rows.specs.Tree.{treeOf}
 use Rattle.rows.specs.Answers.{rangeRow}
-use Rattle.rows.proofs.PartRows.{ops-short, row-refused, row-there}
+use Rattle.rows.proofs.PartRows.{row-refused, row-there}
 use Rattle.cycles.specs.Answers.{chunkOf}
 use Rattle.cycles.specs.Entry.{wholeCost}
 use Rattle.cycles.proofs.EntryLaws.{whole-cost}
-use Rattle.stack.specs.Answers.{partsStack, StackFits}
+use Rattle.stack.specs.Answers.{partsStack}
+use Rattle.stack.proofs.EntryLaws.{whole-stack}
 use Rattle.lines.specs.Line.{LineFits}
-
--- what the stack walk asks
-pub stack-fits : {ws : List ℕ} {p : Parts} (f : LineFits ws p) {ops : List ℕ} → ops ≡ partOf (p .ops) (p .extras) ws → {g : Range} → ok g ≡ rangeRow (p .mode) ops
-    → StackFits ops (p .locals) (g .from) (g .to)
-stack-fits f is row =
-    let there = row-there (f .parts) (f .short) is row in
-    record {
-      few = rw (f .parts .locals) (f .fits .locals);
-      row = record { within = there .within; short = ops-short (f .parts) (f .short) is; has-row = there .has-row };
-    }
 
 module _ {ws : List ℕ} {p : Parts} (f : LineFits ws p) {ops : List ℕ} (is-ops : ops ≡ partOf (p .ops) (p .extras) ws) (callees : List ℕ)
     (k : Chunk) (parts : PartsOf ws p k) where
@@ -41,14 +30,11 @@ module _ {ws : List ℕ} {p : Parts} (f : LineFits ws p) {ops : List ℕ} (is-op
     pub walk-told : (n q : ℕ) → no n q ≡ wholeCost (chunkOf constants ops extras) (g .from) (g .to) → no n q ≡ chunkLine k callees
     walk-told n q e = rw (row-there parts (f .short) is-ops row .tree, whole-cost parts is-constants is-ops is-extras g ∙ sym e)
 
-    whole-stack : T.rowStack k callees (treeOf (opAt ops) (g .from) (g .to)) ≡ partsStack constants ops callees (p .locals) (g .from) (g .to)
-    whole-stack = rw (is-constants, is-ops, parts .locals, parts .constants, parts .ops)
-
     module _ (x : R.Cost) (walked : ok x ≡ wholeCost (chunkOf constants ops extras) (g .from) (g .to)) where
       pub stack-told : (n q : ℕ) → no n q ≡ partsStack constants ops callees (p .locals) (g .from) (g .to) → no n q ≡ chunkLine k callees
       stack-told n q e =
-          rw (row-there parts (f .short) is-ops row .tree, whole-cost parts is-constants is-ops is-extras g ∙ sym walked, whole-stack ∙ sym e)
+          rw (row-there parts (f .short) is-ops row .tree, whole-cost parts is-constants is-ops is-extras g ∙ sym walked, whole-stack parts is-ops is-constants callees g ∙ sym e)
 
       pub line-told : (s : T.Stack) → ok s ≡ partsStack constants ops callees (p .locals) (g .from) (g .to) → ok (lineOf x s) ≡ chunkLine k callees
       line-told s e =
-          rw (row-there parts (f .short) is-ops row .tree, whole-cost parts is-constants is-ops is-extras g ∙ sym walked, whole-stack ∙ sym e)
+          rw (row-there parts (f .short) is-ops row .tree, whole-cost parts is-constants is-ops is-extras g ∙ sym walked, whole-stack parts is-ops is-constants callees g ∙ sym e)

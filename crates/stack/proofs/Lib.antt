@@ -7,3 +7,4 @@ pub mod RowLaws
 pub mod BlockLaws
 pub mod StepLaws
 pub mod ChunkLaws
+pub mod EntryLaws

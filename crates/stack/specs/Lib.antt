@@ -1,3 +1,4 @@
 pub mod Levels
 pub mod Steps
 pub mod Answers
+pub mod Entry

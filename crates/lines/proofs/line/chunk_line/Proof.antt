@@ -8,7 +8,8 @@ use Rattle.rows.proofs.PartRows.{ops-short}
 use Rattle.cycles.specs.Answers.{walkResult}
 use Rattle.cycles.proofs.EntryLaws.{row-fits}
 use Rattle.stack.specs.Answers.{stackResult}
-use Rattle.lines.proofs.LineLaws.{stack-fits, row-told, walk-told, stack-told, line-told}
+use Rattle.stack.proofs.EntryLaws.{range-fits}
+use Rattle.lines.proofs.LineLaws.{row-told, walk-told, stack-told, line-told}
 use Rattle.lines.proofs.line.chunk_line.Statement.{statement}
 use Rattle.lines.proofs.line.chunk_line.Tie as tie
 
@@ -78,7 +79,8 @@ compute-chunk-wcmu-requires : tie.Need-compute-chunk-wcmu-requires
 compute-chunk-wcmu-requires c κs =
     let e = c .before .before .before .before in
     let o = e .before .before .before .before .before .before in
-    stack-fits (o .before .before .before .pre) (o .ops-of .ensures) (row-is (e .before))
+    let f = o .before .before .before .pre in
+    range-fits (f .parts) (o .ops-of .ensures) (f .fits) (f .short) (row-is (e .before))
 
 -- src/line.rt:59:13
 enum-known-stack : tie.Need-enum-known-stack

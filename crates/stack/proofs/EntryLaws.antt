@@ -1,0 +1,52 @@
+-- The stack walk of a chunk from the walk of its parts: what the entry point and the crates above cite.
+-- Assumes nothing.
+use mathlib.Core.Path.{_≡_, sym, _∙_}
+use mathlib.Core.List.{List}
+use Prim.Native.Nat.{ℕ, _≤_}
+use lib.ListN.{length}
+use Rattle.rules.specs.Outcome.{ok, no, answer, refused}
+use Rattle.rules.specs.Ops.{opAt}
+use Rattle.rules.specs.Form.{Chunk, ChunkFits}
+use Rattle.rules.specs.Rows.{Range}
+use Rattle.rules.specs.Stack.{Stack, rowStack}
+use Rattle.rules.specs.Sheet.{stackOutcome}
+use Rattle.words.specs.declared.parts.Parts.{Parts}
+use Rattle.words.specs.Parts.{partOf, PartsOf}
+use Rattle.words.specs.Lookup.{partsOutcome}
+use Rattle.words.proofs.LookupLaws.{Chunked, lookup-refused}
+use Rattle.rows.specs.Tree.{treeOf}
+use Rattle.rows.specs.Answers.{rangeRow}
+use Rattle.rows.proofs.PartRows.{ops-short, row-refused, row-there}
+use Rattle.stack.specs.Answers.{partsStack, StackFits}
+
+module _ {ws : List ℕ} {p : Parts} {k : Chunk} (parts : PartsOf ws p k) {ops : List ℕ} (is-ops : ops ≡ partOf (p .ops) (p .extras) ws) where
+  -- the parts' walk is the chunk's
+  pub whole-stack : {constants : List ℕ} → constants ≡ partOf (p .constants) (p .ops) ws → (callees : List ℕ) (g : Range)
+      → rowStack k callees (treeOf (opAt ops) (g .from) (g .to)) ≡ partsStack constants ops callees (p .locals) (g .from) (g .to)
+  whole-stack is-constants callees g = rw (is-constants, is-ops, parts .locals, parts .constants, parts .ops)
+
+  -- the walk of a range that is a row
+  pub range-fits : ChunkFits k → length ws ≤ 16384 → {g : Range} → ok g ≡ rangeRow (p .mode) ops → StackFits ops (p .locals) (g .from) (g .to)
+  range-fits fits short row =
+      let there = row-there parts short is-ops row in
+      record {
+        few = rw (parts .locals) (fits .locals);
+        row = record { within = there .within; short = ops-short parts short is-ops; has-row = there .has-row };
+      }
+
+module _ (ws : List ℕ) (c : ℕ) (callees : List ℕ) where
+  pub lookup-told : (n k q : ℕ) → refused n k q ≡ partsOutcome ws c → refused n k q ≡ stackOutcome ws c callees
+  lookup-told n k q e = rw (← lookup-refused ws c n k q e)
+
+  module _ {p : Parts} (h : Chunked ws c p) {ops : List ℕ} (is-ops : ops ≡ partOf (p .ops) (p .extras) ws) where
+    pub row-told : (n q : ℕ) → no n q ≡ rangeRow (p .mode) ops → refused n c q ≡ stackOutcome ws c callees
+    row-told n q e = rw (h .outcome, row-refused (h .parts) (h .short) is-ops n q e)
+
+    module _ {constants : List ℕ} (is-constants : constants ≡ partOf (p .constants) (p .ops) ws) (g : Range) (row : ok g ≡ rangeRow (p .mode) ops) where
+      pub stack-refused : (n q : ℕ) → no n q ≡ partsStack constants ops callees (p .locals) (g .from) (g .to) → refused n c q ≡ stackOutcome ws c callees
+      stack-refused n q e =
+          rw (h .outcome, row-there (h .parts) (h .short) is-ops row .tree, whole-stack (h .parts) is-ops is-constants callees g ∙ sym e)
+
+      pub stack-told : (s : Stack) → ok s ≡ partsStack constants ops callees (p .locals) (g .from) (g .to) → answer s ≡ stackOutcome ws c callees
+      stack-told s e =
+          rw (h .outcome, row-there (h .parts) (h .short) is-ops row .tree, whole-stack (h .parts) is-ops is-constants callees g ∙ sym e)
