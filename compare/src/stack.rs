@@ -4,11 +4,14 @@ use std::process::{exit, Command, Stdio};
 use std::thread;
 
 extern "C" {
-    fn pm_cycles(words: *const u32, length: usize, chunk: usize) -> u64;
+    fn pm_cycles(words: *const u32, length: usize, chunk: u32) -> u64;
 }
 
 /// Refusal 7 at place 0, packed.
-const TOO_DEEP: u64 = 7 << 32;
+const TOO_DEEP: u64 = 7 << 56;
+
+/// A row that ends, packed beside its cycles.
+const ENDS: u64 = 1 << 32;
 
 const GET_LOCAL: u32 = 1 << 24;
 const SET_LOCAL: u32 = 2 << 24;
@@ -75,7 +78,7 @@ fn cases() -> Vec<Case> {
         Case {
             name: "8,000 blocks behind Return: row check alone",
             ops: behind,
-            answer: 2,
+            answer: 2 + ENDS,
         },
         Case {
             name: "256 blocks: walked",

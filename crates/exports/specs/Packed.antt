@@ -1,14 +1,29 @@
--- An outcome as one number, for a caller in another language: number * 2^32 + value.
-use Prim.Native.Nat.{ℕ, _+_, _*_, min}
+-- An outcome as one number, for a caller in another language.
+use mathlib.Core.Bool.{Bool, true, false}
+use Prim.Native.Nat.{ℕ, _+_, _*_, _%_}
 use Rattle.rules.specs.Outcome.{Outcome, answer, refused}
 use Rattle.rules.specs.Cycles.{Cycles}
 
--- an answer has the number 0 and is the value; a refusal has its own number, and its place is the value
+-- the reader: an answer has the number 0 and is the value; a refusal has its own number, and its place is the value
 abbrev pub packed : Outcome ℕ → ℕ
 packed (answer n) = n
 packed (refused n c p) = n * 4294967296 + p
 
--- the same of the cycle walk, whose value is the cycles; a place stops at 2^32 - 1
+-- A refusal of the others: number, chunk and place in 8, 24 and 32 bits. Numbers end at 13, chunks and positions of a module at 16,384;
+-- a chunk or a position that is handed in is kept whole below 2^24 and 2^32.
+abbrev pub packedRefusal : ℕ → ℕ → ℕ → ℕ
+packedRefusal n c p = n % 256 * 72057594037927936 + c % 16777216 * 4294967296 + p % 4294967296
+
+-- the count alone
+abbrev pub packedCount : Outcome ℕ → ℕ
+packedCount (answer n) = n
+packedCount (refused n c p) = packedRefusal n c p
+
+-- the ends flag above 32 bits of cycles
+abbrev pub packedEnds : Bool → ℕ → ℕ
+packedEnds true c = c + 4294967296
+packedEnds false c = c
+
 abbrev pub packedCycles : Outcome Cycles → ℕ
-packedCycles (answer k) = k .cycles
-packedCycles (refused n c p) = n * 4294967296 + min 4294967295 p
+packedCycles (answer k) = packedEnds (k .ends) (k .cycles)
+packedCycles (refused n c p) = packedRefusal n c p

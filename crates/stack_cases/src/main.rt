@@ -4,7 +4,6 @@ use stack::entry::StackAnswer;
 use stack::entry::stack_walk;
 use stack::height::Delta;
 ghost use Prim.Native.Nat.{_≤_};
-ghost use lib.ListN.{length};
 
 // Words of kinds 199, 200 and 202 with a 0 and b 0, and the step from one b to the next.
 const HEAD: u32 = 3338665984;
@@ -15,7 +14,7 @@ const INTEGER: u32 = 3388997632;
 
 const NEXT_B: u32 = 65536;
 
-// Ops with a 0 and b 0: kinds 0, 1, 2, 19, 21 to 31, 34, 36, 50, 51, 58, 64 and 65.
+// Ops with a 0 and b 0: kinds 0, 1, 2, 19, 21 to 32, 34, 36, 50, 51, 58, 64 and 65.
 const CONST: u32 = 0;
 
 const GET_LOCAL: u32 = 16777216;

@@ -1,0 +1,45 @@
+-- `pm_count` is the outcome of the count alone, packed.
+-- Assumes nothing.
+use mathlib.Core.Path.{ap, _∙_}
+use borrow.Author.Needs.{needs}
+use Rattle.exports.specs.Packed.{packedCount}
+use Rattle.exports.proofs.pm_count.Statement.{statement}
+use Rattle.exports.proofs.pm_count.Tie as tie
+
+loop-count-requires : tie.Need-loop-count-requires
+loop-count-requires c κs = search needs
+
+enum-known-answer : tie.Need-enum-known-answer
+enum-known-answer c = search needs
+
+cast-result : tie.Need-cast-result
+cast-result c = search needs
+
+enum-known-answer-2 : tie.Need-enum-known-answer-2
+enum-known-answer-2 c = search needs
+
+pack-refusal-requires : tie.Need-pack-refusal-requires
+pack-refusal-requires c κs = search needs
+
+returns : tie.Need-returns
+returns c =
+    let r = c .before .before .before in
+    ap packedCount (rw (c .before .answer .given .1) at (r .loop-count .ensures))
+
+returns-2 : tie.Need-returns-2
+returns-2 c =
+    let d = c .before in
+    let r = d .before .before .before in
+    c .pack-refusal .ensures ∙ ap packedCount (rw (d .before .answer2 .given .1) at (r .loop-count .ensures))
+
+pub pm-count-spec : {M : Type 1} → statement M
+pm-count-spec =
+    tie.close
+    (tie.spec
+    loop-count-requires
+    enum-known-answer
+    cast-result
+    enum-known-answer-2
+    pack-refusal-requires
+    returns
+    returns-2)
