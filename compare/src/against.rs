@@ -1,0 +1,241 @@
+//! Compares the proved functions with the original Rust, `verify.rs` unchanged, on the same modules. The stack walk, the order and the sheet have no proved
+//! function yet: there a plain Rust reading of document 01 is compared with the original.
+extern crate value_layout;
+
+mod apart;
+#[allow(dead_code)]
+#[path = "standin/bytecode.rs"]
+mod bytecode;
+mod case;
+mod counts;
+mod document;
+mod every;
+mod form;
+mod limits;
+#[path = "standin/passes.rs"]
+mod passes;
+mod picks;
+mod programs;
+#[allow(dead_code)]
+mod random;
+mod table;
+#[allow(dead_code)]
+#[path = "standin/text_size.rs"]
+mod text_size;
+mod times;
+use passes::{verify_init, verify_typed};
+
+#[allow(dead_code, unexpected_cfgs)]
+mod verify {
+    include!(concat!(env!("VERIFY_SRC"), "/verify.rs"));
+    pub mod oracle;
+}
+
+use case::Case;
+use counts::Counts;
+use form::Op;
+use picks::op;
+use random::Random;
+use table::{Each, Outcome};
+
+const ALL: [Each; 3] = [Each::Module, Each::Chunk, Each::Position];
+
+/// Every op with some fields: both readings of the table have the same figures, and what an op leaves of the depth is `op_depth_effect`'s.
+fn tables(counts: &mut Counts) {
+    let chunk = every::chunk(0, 0, &[], Vec::new());
+    let held = &Case::of(&[chunk]).module.chunks[0];
+    for kind in 0..66 {
+        for b in 0..=form::greatest_b(kind) {
+            for a in [0, 1, 2, 7, 8, 9, 10, 255, 256, 65_535] {
+                if a > 0 && !form::uses_a(kind) {
+                    continue;
+                }
+                let read = Op { kind, b, a };
+                let (cycles, growth, shrink) = document::figures(&read);
+                let op = case::op(&read);
+                let (c, g, s) = op.figures();
+                let ours = Outcome::Answer(vec![cycles, growth, shrink, growth - shrink]);
+                let net = i64::from(verify::oracle::net(&op, held));
+                let expected = Outcome::Answer(vec![i64::from(c), i64::from(g), i64::from(s), net]);
+                counts.comparisons += 1;
+                if ours != expected {
+                    counts.differ("table", &ours, &expected, &format!("{op:?}"));
+                }
+            }
+        }
+    }
+}
+
+/// Document 01's worked cases: what it says, what we say, and what the original says.
+fn worked(counts: &mut Counts) {
+    for (name, chunk, callees, cycles, stack) in limits::cases() {
+        let case = Case::new(form::write(&[chunk]), callees);
+        for (row, said) in [("cycles", cycles), ("stack", stack)] {
+            let Some(said) = said else { continue };
+            let comparison = table::COMPARISONS.iter().find(|held| held.name == row);
+            let ours = (comparison.expect("a comparison").ours)(&case, 0, 0);
+            if ours != said {
+                counts.differ(row, &ours, &said, name);
+            }
+        }
+        counts.compare(&case, &ALL);
+    }
+}
+
+/// Words that are no module, and chunks that there are not: refusals 1, 2 and 12, which only document 01 has.
+fn refusals(counts: &mut Counts, random: &mut Random) {
+    for _ in 0..50_000 {
+        let mut words = form::write(&programs::module(random));
+        if random.below(4) > 0 {
+            random.damage(&mut words);
+        }
+        let c = random.pick(&[0, 0, 1, 5, 256, 65_535, 16_777_215]);
+        let expected = match form::read(&words) {
+            Err(refusal) => Outcome::Refused(refusal.number, 0, refusal.place),
+            Ok(chunks) if chunks.len() <= c => Outcome::Refused(12, c, 0),
+            Ok(_) => continue,
+        };
+        let p = random.pick(&[0, 3, 65_536, u32::MAX as usize]);
+        let ours = [
+            table::unpack_cycles(table::cycles(&words, c)),
+            table::unpack_count(table::count(&words, c, p)),
+        ];
+        for outcome in ours {
+            counts.comparisons += 1;
+            if outcome != expected {
+                counts.differ(
+                    "refusals",
+                    &outcome,
+                    &expected,
+                    &format!("chunk {c}, words {words:x?}"),
+                );
+            }
+        }
+    }
+}
+
+/// Every short list of ops: up to four over fifteen ops, If, Else and Loop, up to six over fewer. From four ops on no target lies before its op.
+fn lists(counts: &mut Counts) {
+    let few = [
+        op(0, 0, 0),
+        op(2, 0, 0),
+        op(50, 0, 0),
+        op(23, 0, 0),
+        op(25, 0, 0),
+        op(26, 0, 0),
+        op(27, 0, 0),
+    ];
+    let more = [
+        op(32, 0, 0),
+        op(2, 0, 1),
+        op(1, 0, 0),
+        op(1, 0, 1),
+        op(31, 0, 0),
+        op(30, 0, 0),
+        op(30, 3, 1),
+        op(50, 0, 8),
+    ];
+    let all: Vec<Op> = few.iter().chain(&more).map(|held| Op { ..*held }).collect();
+    for length in 0..=3 {
+        every::flat(length, &all, |_| 0, length + 1, &mut |case| {
+            counts.compare(&case, &ALL)
+        });
+    }
+    let mut see = |case: Case| counts.compare(&case, &[Each::Chunk]);
+    every::flat(4, &all, |i| i, 5, &mut see);
+    every::flat(5, &few, |i| i + 1, 6, &mut see);
+    every::flat(6, &few[1..], |i| i + 1, 6, &mut see);
+}
+
+/// Every small change of a chunk with a counted loop: one op by every kind, or two by those that its header and tail are made of.
+fn changes(counts: &mut Counts) {
+    let mut one: Vec<Op> = (0..66).map(|kind| op(kind, 0, 0)).collect();
+    one.extend((0..3).flat_map(|kind| (1..4).map(move |a| op(kind, 0, a))));
+    one.extend([1, 2, 3].map(|b| op(58, b, 0)));
+    one.extend([1, 2].map(|b| op(34, b, 3)));
+    one.extend([4, 5, 14, 15, 16, 17].map(|t| op(24, 0, t)));
+    let two = [
+        op(0, 0, 0),
+        op(0, 0, 2),
+        op(1, 0, 0),
+        op(1, 0, 1),
+        op(2, 0, 0),
+        op(2, 0, 1),
+        op(25, 0, 0),
+        op(27, 0, 0),
+        op(32, 0, 0),
+    ];
+    let mut see = |case: Case| counts.compare(&case, &[Each::Chunk, Each::Position]);
+    for held in [
+        every::worked(&[0, 3, 1]),
+        every::worked(&[-2, 1, 5]),
+        every::worked(&[1, 0, 1]),
+        every::worked_array(3),
+    ] {
+        every::changes(&held, &one, false, &mut see);
+        every::changes(&held, &two, true, &mut see);
+    }
+}
+
+fn random_modules(counts: &mut Counts, random: &mut Random, modules: u64) {
+    for _ in 0..modules {
+        let chunks = programs::module(random);
+        let callees = programs::callees(random, chunks.len());
+        let words = form::write(&chunks);
+        if words.len() <= form::MOST_WORDS {
+            counts.compare(&Case::new(words, callees), &ALL);
+        }
+    }
+}
+
+fn run(seed: u64, modules: u64) -> bool {
+    let mut random = Random(seed);
+    let mut counts = Counts::default();
+    println!("seed {seed}");
+    let start = std::time::Instant::now();
+    let mut before = 0;
+    let mut told = |what: &str, counts: &Counts| {
+        println!(
+            "{what}: {} modules, {} s",
+            counts.modules - before,
+            start.elapsed().as_secs()
+        );
+        before = counts.modules;
+    };
+    tables(&mut counts);
+    worked(&mut counts);
+    apart::all(&mut counts);
+    limits::all(|case| counts.compare(&case, &[Each::Module, Each::Chunk]));
+    refusals(&mut counts, &mut random);
+    told("worked cases and limits", &counts);
+    lists(&mut counts);
+    told("short op lists", &counts);
+    every::rows(7, |case| counts.compare(&case, &[Each::Chunk]));
+    told("small rows", &counts);
+    changes(&mut counts);
+    told("changes of counted loops", &counts);
+    random_modules(&mut counts, &mut random, modules);
+    told("random modules", &counts);
+    counts.print();
+    times::print();
+    println!(
+        "{} modules, {} comparisons, {} unexplained differences",
+        counts.modules, counts.comparisons, counts.differences
+    );
+    counts.differences == 0
+}
+
+fn main() {
+    let mut numbers = std::env::args()
+        .skip(1)
+        .map(|text| text.parse().expect("a number"));
+    let seed = numbers.next().unwrap_or(1);
+    let modules = numbers.next().unwrap_or(300_000);
+    // The original's walks recurse, as does the reading of rows here.
+    let work = std::thread::Builder::new().stack_size(1 << 28);
+    let same = work
+        .spawn(move || run(seed, modules))
+        .expect("a thread")
+        .join();
+    std::process::exit(if same.is_ok_and(|same| same) { 0 } else { 1 });
+}

@@ -1,0 +1,163 @@
+//! The smallest inputs of docs/DIFFERENCES.md, on which document 01 and the original part: what each of the two says.
+use crate::case::Case;
+use crate::counts::Counts;
+use crate::every::{chunk, worked};
+use crate::form::{Chunk, Op};
+use crate::picks::op;
+use crate::table::{COMPARISONS, Outcome, refused};
+use crate::verify::oracle;
+use Outcome::{Answer, Refused};
+
+/// What is asked of the original.
+#[derive(Clone, Copy, PartialEq)]
+enum Of {
+    Cycles,
+    PublicCycles,
+    Stack,
+}
+use Of::{Cycles, PublicCycles, Stack};
+
+/// The chunk, the bytes of its callee 0, our outcome and the original's.
+struct Part {
+    name: &'static str,
+    of: Of,
+    chunk: Chunk,
+    callee: u32,
+    ours: Outcome,
+    original: Outcome,
+}
+
+fn original(of: Of, case: &Case) -> Outcome {
+    let chunk = &case.module.chunks[0];
+    let answer = match of {
+        Cycles => oracle::cycles(chunk).map(|(n, ends)| vec![i64::from(n), i64::from(ends)]),
+        PublicCycles => oracle::public_cycles(chunk).map(|n| vec![i64::from(n)]),
+        Stack => oracle::stack(chunk, &case.callees).map(|(peak, delta, bytes)| {
+            vec![
+                i64::from(peak),
+                delta.map_or(0, i64::from),
+                i64::from(bytes),
+            ]
+        }),
+    };
+    match answer {
+        Ok(values) => Answer(values),
+        Err(refusal) => refused(refusal, 0),
+    }
+}
+
+fn crossed(name: &'static str, ops: Vec<Op>, original: Outcome) -> Part {
+    Part {
+        name,
+        of: Cycles,
+        chunk: chunk(0, 0, &[], ops),
+        callee: 0,
+        ours: Refused(6, 0, 0),
+        original,
+    }
+}
+
+fn public(name: &'static str, chunk: Chunk, ours: Outcome, original: Outcome) -> Part {
+    Part {
+        name,
+        of: PublicCycles,
+        chunk,
+        callee: 0,
+        ours,
+        original,
+    }
+}
+
+fn parts() -> Vec<Part> {
+    let answer = |cycles, ends: bool| Answer(vec![cycles, i64::from(ends)]);
+    let stream = |ops| chunk(2, 0, &[], ops);
+    let reentrant = |ops| chunk(1, 0, &[], ops);
+    let mut yielding = worked(&[0, 3, 1]);
+    yielding.mode = 1;
+    yielding.ops.insert(9, op(32, 0, 0));
+    yielding.ops[4].a = 16;
+    // If 2, If 40, If 4, If 40, ..: each If to the end is walked twice over, inside the If before it and behind that.
+    let twice = |i: usize| op(21, 0, if i % 2 == 0 { i + 2 } else { 40 });
+    let mut outside = crossed(
+        "If past the range",
+        vec![op(28, 0, 0), op(21, 0, 3), op(29, 0, 0), op(23, 0, 0)],
+        answer(3, false),
+    );
+    outside.chunk.mode = 2;
+    vec![
+        crossed("If to the length", vec![op(21, 0, 1)], answer(1, false)),
+        crossed("EndIf alone", vec![op(23, 0, 0)], answer(1, false)),
+        crossed("EndLoop alone", vec![op(25, 0, 0)], answer(1, false)),
+        crossed("Else alone", vec![op(22, 0, 1)], answer(1, false)),
+        crossed("Break in no loop", vec![op(26, 0, 0)], answer(1, true)),
+        crossed("BreakIf in no loop", vec![op(27, 0, 0)], answer(1, false)),
+        crossed("Loop with no body", vec![op(24, 0, 1)], Refused(9, 0, 0)),
+        crossed(
+            "Loop with no EndLoop",
+            vec![op(24, 0, 3), op(26, 0, 0), op(32, 0, 0)],
+            answer(2, false),
+        ),
+        crossed(
+            "Ifs that cross",
+            vec![op(21, 0, 2), op(21, 0, 3), op(23, 0, 0), op(23, 0, 0)],
+            answer(6, false),
+        ),
+        crossed(
+            "40 Ifs that cross",
+            (0..40).map(twice).collect(),
+            answer(57_310, false),
+        ),
+        outside,
+        Part {
+            name: "too tall",
+            of: Stack,
+            chunk: chunk(0, 1, &[], vec![op(30, 0, 0)]),
+            callee: u32::MAX,
+            ours: Refused(11, 0, 0),
+            original: Answer(vec![134_217_727, 1, 0]),
+        },
+        public(
+            "Stream and Reset charged",
+            stream(vec![op(28, 0, 0), op(29, 0, 0)]),
+            answer(0, false),
+            Answer(vec![2]),
+        ),
+        public(
+            "targets tested before Stream is looked for",
+            stream(vec![op(21, 0, 0)]),
+            Refused(3, 0, 0),
+            Refused(5, 0, 0),
+        ),
+        public(
+            "a Reentrant chunk cut at its yields",
+            reentrant(vec![op(32, 0, 0), op(32, 0, 0)]),
+            answer(2, false),
+            Answer(vec![1]),
+        ),
+        public(
+            "a yielding loop of a Reentrant chunk passed once",
+            yielding,
+            answer(51, true),
+            Answer(vec![20]),
+        ),
+    ]
+}
+
+/// Each input has to give both answers.
+pub fn all(counts: &mut Counts) {
+    for part in parts() {
+        let case = Case::new(crate::form::write(&[part.chunk]), vec![part.callee]);
+        let row = if part.of == Stack { "stack" } else { "cycles" };
+        let comparison = COMPARISONS.iter().find(|held| held.name == row);
+        let ours = (comparison.expect("a comparison").ours)(&case, 0, 0);
+        for (side, met, said) in [
+            ("ours", ours, part.ours),
+            ("original", original(part.of, &case), part.original),
+        ] {
+            counts.comparisons += 1;
+            if met != said {
+                counts.differ(side, &met, &said, part.name);
+            }
+        }
+    }
+}

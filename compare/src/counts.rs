@@ -1,0 +1,115 @@
+//! Makes the comparisons of a module, and counts their outcomes.
+use crate::case::{self, Case};
+use crate::table::{COMPARISONS, Each, Expected, Outcome};
+use std::collections::BTreeMap;
+
+/// An outcome as it is counted.
+#[derive(Clone, Copy, PartialEq, Eq, PartialOrd, Ord)]
+enum Met {
+    Answer,
+    Refusal(u32),
+    Apart(&'static str),
+}
+
+/// Each position of a chunk, and some behind it; of a long module the Loops alone, since the proved count reads the words anew at each.
+fn positions(case: &Case, c: usize, mut see: impl FnMut(usize)) {
+    let ops = &case.chunks[c].ops;
+    let short = case.words.len() < 120;
+    (0..ops.len() + 2)
+        .filter(|&p| short || ops.get(p).is_some_and(|op| op.kind == 24))
+        .for_each(&mut see);
+    see(u32::MAX as usize);
+}
+
+/// How often each outcome was met in each comparison, and how many differed.
+#[derive(Default)]
+pub struct Counts {
+    pub modules: u64,
+    pub comparisons: u64,
+    pub differences: u64,
+    met: BTreeMap<(usize, Met), u64>,
+}
+
+impl Counts {
+    /// The comparisons that are made once a module, once a chunk, or for each position, if they are among those wanted.
+    pub fn compare(&mut self, case: &Case, wanted: &[Each]) {
+        self.modules += 1;
+        for (row, comparison) in COMPARISONS.iter().enumerate() {
+            if !wanted.contains(&comparison.each) {
+                continue;
+            }
+            let chunks = match comparison.each {
+                Each::Module => 1,
+                _ => case.chunks.len(),
+            };
+            for c in 0..chunks {
+                match comparison.each {
+                    Each::Position => positions(case, c, |p| self.one(row, case, c, p)),
+                    _ => self.one(row, case, c, 0),
+                }
+            }
+        }
+    }
+
+    fn one(&mut self, row: usize, case: &Case, c: usize, p: usize) {
+        let comparison = &COMPARISONS[row];
+        let (met, expected) = match (comparison.original)(case, c, p) {
+            Expected::Same(outcome @ Outcome::Answer(_)) => (Met::Answer, outcome),
+            Expected::Same(outcome @ Outcome::Refused(number, ..)) => {
+                (Met::Refusal(number), outcome)
+            }
+            Expected::Apart(reason, outcome) => (Met::Apart(reason), outcome),
+        };
+        let ours = (comparison.ours)(case, c, p);
+        self.comparisons += 1;
+        *self.met.entry((row, met)).or_default() += 1;
+        if ours != expected {
+            self.differ(
+                comparison.name,
+                &ours,
+                &expected,
+                &format!("chunk {c}, position {p}"),
+            );
+            self.show(case);
+        }
+    }
+
+    /// A difference. The first few are printed.
+    pub fn differ(&mut self, name: &str, ours: &Outcome, expected: &Outcome, at: &str) {
+        self.differences += 1;
+        if self.differences <= 20 {
+            println!("difference in {name}, {at}: ours {ours:?}, but it should be {expected:?}");
+        }
+    }
+
+    fn show(&self, case: &Case) {
+        if self.differences <= 20 {
+            let some = case.words.len().min(200);
+            println!(
+                "  words {:x?}, callees {:?}",
+                &case.words[..some],
+                case.callees
+            );
+            for (c, chunk) in case.chunks.iter().enumerate().take(8) {
+                println!("  chunk {c}: {}", case::text(chunk));
+            }
+        }
+    }
+
+    /// One line for each comparison.
+    pub fn print(&self) {
+        for (row, comparison) in COMPARISONS.iter().enumerate() {
+            let line: Vec<String> = self
+                .met
+                .iter()
+                .filter(|((of, _), _)| *of == row)
+                .map(|((_, met), n)| match met {
+                    Met::Answer => format!("{n} answers"),
+                    Met::Refusal(number) => format!("{n} refused by {number}"),
+                    Met::Apart(reason) => format!("{n} apart ({reason})"),
+                })
+                .collect();
+            println!("{}: {}", comparison.name, line.join(", "));
+        }
+    }
+}

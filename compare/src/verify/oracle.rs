@@ -1,0 +1,111 @@
+//! What the original answers. This is a child of its module, so that it reaches the functions that are private there.
+use super::*;
+use crate::bytecode::{NOMINAL_COST_MODEL, VALUE_SLOT_SIZE_BYTES};
+use crate::document::Refusal;
+
+/// The number behind some words of a message.
+fn behind(message: &str, words: &str) -> usize {
+    let rest = message
+        .split_once(words)
+        .expect("the message has these words")
+        .1;
+    let end = rest
+        .find(|c: char| !c.is_ascii_digit())
+        .unwrap_or(rest.len());
+    rest[..end].parse().expect("a number stands there")
+}
+
+/// Document 01's number and place of an error, by its message.
+fn refusal(error: VerifyError) -> Refusal {
+    let message = error.message.as_str();
+    if message == "Stream block missing Stream instruction" {
+        Refusal(3, 0)
+    } else if message == "Stream block missing Reset instruction" {
+        Refusal(4, 0)
+    } else if message.contains("which is not a forward position") {
+        Refusal(5, behind(message, " at "))
+    } else if message.starts_with("control-flow regions nest deeper") {
+        Refusal(7, 0)
+    } else if message.starts_with("text operation at") {
+        Refusal(8, behind(message, "instruction "))
+    } else if message.contains("no statically extractable iteration bound") {
+        Refusal(9, behind(message, "instruction "))
+    } else {
+        panic!("an error that document 01 has no number for: {message}")
+    }
+}
+
+/// The range that `compute_chunk_wcmu` walks.
+pub fn range(chunk: &Chunk) -> Result<(usize, usize), Refusal> {
+    if chunk.block_type != BlockType::Stream {
+        return Ok((0, chunk.ops.len()));
+    }
+    let stream = chunk.ops.iter().position(|op| matches!(op, Op::Stream));
+    let reset = chunk.ops.iter().position(|op| matches!(op, Op::Reset));
+    Ok((
+        stream.ok_or(Refusal(3, 0))? + 1,
+        reset.ok_or(Refusal(4, 0))?,
+    ))
+}
+
+/// `check_forward_control_flow_targets`
+pub fn forward(chunk: &Chunk) -> Result<(), Refusal> {
+    check_forward_control_flow_targets(chunk).map_err(refusal)
+}
+
+/// `wcet_region`, clamp off: the cycles, and whether the row ends.
+pub fn cycles(chunk: &Chunk) -> Result<(u32, bool), Refusal> {
+    let (start, end) = range(chunk)?;
+    forward(chunk)?;
+    let mut breaks = Vec::new();
+    let model = &NOMINAL_COST_MODEL;
+    let walk = wcet_region(chunk, start, end, &mut breaks, model, false, &chunk.extras);
+    walk.map(|cost| (cost.cost, !cost.falls_through))
+        .map_err(refusal)
+}
+
+/// The public entry: `wcet_stream_iteration` or `wcet_whole_chunk`.
+pub fn public_cycles(chunk: &Chunk) -> Result<u32, Refusal> {
+    match chunk.block_type {
+        BlockType::Stream => wcet_stream_iteration(chunk),
+        _ => wcet_whole_chunk(chunk),
+    }
+    .map_err(refusal)
+}
+
+/// `extract_loop_iteration_bound`
+pub fn count(chunk: &Chunk, place: usize) -> Option<u32> {
+    extract_loop_iteration_bound(chunk, place)
+}
+
+/// Peak and delta by `wcmu_region` on the range of `compute_chunk_wcmu`, and bytes by the latter, with the callees' bytes as lent.
+pub fn stack(chunk: &Chunk, callees: &[u32]) -> Result<(u32, Option<i32>, u32), Refusal> {
+    let known: Vec<Option<(u32, u32)>> = callees.iter().map(|&bytes| Some((bytes, 0))).collect();
+    let resolver = CallResolver {
+        chunk_wcmu: &known,
+        ..CallResolver::empty()
+    };
+    let slot = VALUE_SLOT_SIZE_BYTES;
+    let ((bytes, _), _) = compute_chunk_wcmu(chunk, &resolver, &[], slot).map_err(refusal)?;
+    let (start, end) = range(chunk)?;
+    let mut breaks = Vec::new();
+    let walk = wcmu_region(chunk, start, end, &mut breaks, &resolver, slot).map_err(refusal)?;
+    Ok((walk.peak_above_initial, walk.delta, bytes))
+}
+
+/// `topological_call_order`, or the ring's chunk: chunks are named by their index.
+pub fn order(module: &Module) -> Result<Vec<usize>, usize> {
+    topological_call_order(module)
+        .map_err(|error| error.chunk_name.parse().expect("a chunk's name"))
+}
+
+/// `module_wcmu`: the stack bytes by chunk index.
+pub fn module_bytes(module: &Module) -> Option<Vec<u32>> {
+    let answer = module_wcmu(module, &[]).ok()?;
+    Some(answer.into_iter().map(|(stack, _)| stack).collect())
+}
+
+/// `op_depth_effect`: what an op leaves of the depth.
+pub fn net(op: &Op, chunk: &Chunk) -> i32 {
+    op_depth_effect(op, chunk).1
+}
