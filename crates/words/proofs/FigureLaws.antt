@@ -1,13 +1,14 @@
--- Laws of `figuresOf`: by kind, b and a; none over kind 65; those of kinds 64 and 65; and what of Trap's does not depend on its code.
+-- Laws of `figuresOf`: by kind, b and a; the row of a kind; none over kind 65; those of kinds 64 and 65; and what of Trap's does not depend on its code.
 -- Assumes nothing.
 use mathlib.Core.Path.{_≡_, refl, _∙_}
 use mathlib.Core.Bool.{Bool, true, false, cond, _&&_, and-false, and-eq-true-iff}
 use mathlib.Core.List.{List, [], _∷_}
-use Prim.Native.Nat.{ℕ, _≤_, _<_}
+use Prim.Native.Nat.{ℕ, _+_, _*_, _≤_, _<_}
 use native.Mathlib.Omega.{arith}
-use borrow.Author.Tests.{eqb-true, eqb-false, leb-true, le-leb, lt-leb, ne-eqb}
+use borrow.Author.Tests.{leb-true, le-leb, lt-leb, ne-eqb}
 use lib.Dec.{eqb, leb}
-use Rattle.rules.specs.Ops.{Group, Figures, kind, fieldB, table, figures, between, inGroups, indexFigures, trapFigures, nativeFigures, figuresOf}
+use Rattle.words.proofs.Table.{split}
+use Rattle.rules.specs.Ops.{Group, Figures, word, kind, fieldB, table, figures, between, inGroups, indexFigures, trapFigures, nativeFigures, figuresOf}
 
 -- `figuresOf w` is, by its definition, `figuresBy (kind w) (fieldB w) (fieldA w)`: so a test can compute it at each kind, with b and a open.
 abbrev pub figuresBy : ℕ → ℕ → ℕ → Figures
@@ -18,6 +19,10 @@ figuresBy k b a =
     (cond (eqb k 50) (trapFigures a)
     (cond (eqb k 58) (figures 1 0 b)
     (cond (between 64 65 k) (nativeFigures b) (inGroups table k))))))
+
+-- the row of a kind: its figures for a = 0 and b = 0 in one number
+abbrev pub rowOf : ℕ → ℕ
+rowOf k = figuresOf (word k 0 0) .cycles * 16 + figuresOf (word k 0 0) .growth * 2 + figuresOf (word k 0 0) .shrink
 
 -- no group reaches over a bound
 abbrev under : ℕ → List Group → Bool
@@ -42,14 +47,6 @@ over w h = high w (omega arith) ∙ simp (lt-leb (kind w) 65 h) (none-over 65 ta
 
 pub natives : (w : ℕ) → 64 ≤ kind w → kind w ≤ 65 → figuresOf w ≡ nativeFigures (fieldB w)
 natives w h l = high w h ∙ simp (le-leb (kind w) 65 l)
-
--- a number is another, or not
-pub split : (k n : ℕ) {P : Type 0} → (k ≡ n → P) → ((k ≡ n → ⊥) → P) → P
-split k n {P} f g = go (eqb k n) refl
-  where
-    go : (b : Bool) → eqb k n ≡ b → P
-    go true e = f (eqb-true k n e)
-    go false e = g (eqb-false k n e)
 
 pub trap-cycles : (a : ℕ) → (a ≡ 8 → ⊥) → trapFigures a .cycles ≡ 1
 trap-cycles a n = split a 9 (λ e. rw e) (λ m. simp (ne-eqb a 8 n, ne-eqb a 9 m))

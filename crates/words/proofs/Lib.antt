@@ -1,5 +1,4 @@
 pub mod Table
-pub mod OpLaws
 pub mod FigureLaws
 pub mod ReaderLaws
 pub mod ValueLaws

@@ -1,25 +1,30 @@
--- What a test tells of every entry of a list: it is computed once, over the whole list, and then holds at each place.
--- Assumes nothing.
-use mathlib.Core.Path.{_≡_}
+-- What a test tells of every number below a bound: it is computed once, over all of them, and then holds of each. Assumes nothing.
+use mathlib.Core.Path.{_≡_, refl}
 use mathlib.Core.Bool.{Bool, true, false, _&&_, _||_, and-eq-true-iff}
-use mathlib.Core.List.{List, [], _∷_}
 use Prim.Native.Nat.{ℕ, zero, suc, _<_}
 use native.Mathlib.Omega.{arith}
-use borrow.Author.Tests.{eqb-true}
+use borrow.Author.Tests.{eqb-true, eqb-false}
 use lib.Dec.{eqb}
-use lib.ListN.{length, getD}
 
--- the test holds of each place with its entry
-abbrev pub every : (ℕ → ℕ → Bool) → List ℕ → Bool
-every f [] = true
-every f (x ∷ xs) = f 0 x && every (λ k. f (suc k)) xs
+-- the test holds of each number below n
+abbrev every : (ℕ → Bool) → ℕ → Bool
+every f zero = true
+every f (suc n) = f n && every f n
 
-pub at : (f : ℕ → ℕ → Bool) (xs : List ℕ) → every f xs ≡ true → (k : ℕ) → k < length xs → f k (getD xs k 0) ≡ true
-at f [] t k h = absurd (omega arith)
-at f (x ∷ xs) t zero h = and-eq-true-iff (f 0 x) _ .0 t .0
-at f (x ∷ xs) t (suc k) h = at (λ i. f (suc i)) xs (and-eq-true-iff (f 0 x) _ .0 t .1) k (omega arith)
+-- a number is another, or not
+pub split : (k n : ℕ) {P : Type 0} → (k ≡ n → P) → ((k ≡ n → ⊥) → P) → P
+split k n {P} f g = go (eqb k n) refl
+  where
+    go : (b : Bool) → eqb k n ≡ b → P
+    go true e = f (eqb-true k n e)
+    go false e = g (eqb-false k n e)
 
--- A list whose entries are those of a rule, but for the places left out.
-pub entry : (out : ℕ → Bool) (rule : ℕ → ℕ) (xs : List ℕ) → every (λ k x. out k || eqb x (rule k)) xs ≡ true →
-    (k : ℕ) → k < length xs → out k ≡ false → getD xs k 0 ≡ rule k
-entry out rule xs t k h o = eqb-true _ _ (simp o at (at (λ k x. out k || eqb x (rule k)) xs t k h))
+at : (f : ℕ → Bool) (n : ℕ) → every f n ≡ true → (k : ℕ) → k < n → f k ≡ true
+at f zero t k h = absurd (omega arith)
+at f (suc n) t k h =
+    let both = and-eq-true-iff (f n) _ .0 t in
+    split k n (λ e. rw e (both .0)) (λ e. at f n (both .1) k (omega arith))
+
+-- Two functions that are the same below n, but for the places left out.
+pub same : (out : ℕ → Bool) (f g : ℕ → ℕ) (n : ℕ) → every (λ k. out k || eqb (f k) (g k)) n ≡ true → (k : ℕ) → k < n → out k ≡ false → f k ≡ g k
+same out f g n t k h o = eqb-true _ _ (simp o at (at (λ k. out k || eqb (f k) (g k)) n t k h))

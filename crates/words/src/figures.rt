@@ -1,222 +1,33 @@
 // The figures of an op: a constant table by kind, and beside it the kinds whose figures depend on a or b.
 ghost use mathlib.Core.Path.{_≡_};
-ghost use Rattle.rules.specs.Ops.{figuresOf, trapFigures};
+ghost use Prim.Native.Nat.{_+_, _*_, _<_};
+ghost use Rattle.rules.specs.Ops.{word, figuresOf, trapFigures};
 
-// Cycles by kind, for a = 0 and b = 0.
-const CYCLES: [u32; 66] = [
-    1,
-    1,
-    1,
-    1,
-    1,
-    8,
-    8,
-    7,
-    2,
-    2,
-    2,
-    5,
-    5,
-    2,
-    2,
-    2,
-    2,
-    2,
-    2,
-    2,
-    1,
-    1,
-    1,
-    1,
-    1,
-    1,
-    1,
-    1,
-    1,
-    1,
-    10,
-    2,
-    1,
-    1,
-    5,
-    3,
-    2,
-    2,
-    2,
-    2,
-    3,
-    3,
-    2,
-    2,
-    2,
-    2,
-    2,
-    2,
-    2,
-    2,
-    1,
-    2,
-    2,
-    2,
-    2,
-    2,
-    2,
-    1,
-    1,
-    2,
-    2,
-    2,
-    2,
-    2,
-    10,
-    10,
-];
-
-// Growth by kind, for a = 0 and b = 0.
-const GROWTH: [u32; 66] = [
-    1,
-    1,
-    0,
-    1,
-    0,
-    5,
-    4,
-    5,
-    0,
-    0,
-    0,
-    1,
-    1,
-    0,
-    0,
-    0,
-    0,
-    0,
-    0,
-    0,
-    0,
-    0,
-    0,
-    0,
-    0,
-    0,
-    0,
-    0,
-    0,
-    0,
-    1,
-    0,
-    0,
-    1,
-    1,
-    0,
-    0,
-    0,
-    0,
-    0,
-    1,
-    1,
-    0,
-    0,
-    0,
-    0,
-    0,
-    0,
-    0,
-    1,
-    0,
-    1,
-    1,
-    1,
-    2,
-    1,
-    1,
-    1,
-    0,
-    0,
-    0,
-    0,
-    0,
-    0,
-    1,
-    1,
-];
-
-// Shrink by kind, for a = 0 and b = 0.
-const SHRINK: [u32; 66] = [
-    0,
-    0,
-    1,
-    0,
-    1,
-    0,
-    0,
-    0,
-    1,
-    1,
-    1,
-    0,
-    0,
-    0,
-    1,
-    1,
-    1,
-    1,
-    1,
-    1,
-    0,
-    1,
-    0,
-    0,
-    0,
-    0,
-    0,
-    1,
-    0,
-    0,
-    0,
-    0,
-    0,
-    0,
-    0,
-    0,
-    1,
-    0,
-    0,
-    0,
-    0,
-    0,
-    0,
-    0,
-    0,
-    0,
-    0,
-    0,
-    1,
-    0,
-    0,
-    0,
-    0,
-    0,
-    0,
-    0,
-    0,
-    0,
-    0,
-    1,
-    1,
-    1,
-    1,
-    1,
-    0,
-    0,
-];
+// The row of a kind for a = 0 and b = 0 is two hexadecimal digits: the cycles, and behind them 2 * growth + shrink. Line i has the rows of the kinds from
+// 8 * i to 8 * i + 7, in this order; the last has those of 64 and 65. It is a `match` and no array: at each use, an array of constants is written to the stack.
+fn row_of(k: u32) -> u32
+    requires { ⌜ k < 66 ⌝ }
+    ensures { λ r. ⌜ r ≡ figuresOf (word k 0 0) .cycles * 16 + figuresOf (word k 0 0) .growth * 2 + figuresOf (word k 0 0) .shrink ⌝ }
+{
+    let eight: u64 = match k / 8 {
+        0 => 0x12_12_11_12_11_8a_88_7a,
+        1 => 0x21_21_21_52_52_20_21_21,
+        2 => 0x21_21_21_21_10_11_10_10,
+        3 => 0x10_10_10_11_10_10_a2_20,
+        4 => 0x10_12_52_30_21_20_20_20,
+        5 => 0x32_32_20_20_20_20_20_20,
+        6 => 0x21_22_10_22_22_22_24_22,
+        7 => 0x22_12_10_21_21_21_21_21,
+        _ => 0xa2_a2_00_00_00_00_00_00,
+    };
+    ((eight >> (8 * (7 - k % 8))) % 256) as u32
+}
 
 // The cycles of an op; 0 for a word of another kind.
 pub fn cycles(w: u32) -> u32
     ensures { λ r. ⌜ r ≡ figuresOf w .cycles ⌝ }
 {
-    let k = (w / 16777216) as usize;
+    let k = w / 16777216;
     if 65 < k {
         return 0;
     }
@@ -226,36 +37,37 @@ pub fn cycles(w: u32) -> u32
     if k == 50 {
         return if w % 65536 == 8 { 6 } else { 1 };
     }
-    CYCLES[k]
+    row_of(k) / 16
 }
 
 // The slots that an op pushes before it runs.
 pub fn stack_growth(w: u32) -> u32
     ensures { λ r. ⌜ r ≡ figuresOf w .growth ⌝ }
 {
-    let k = (w / 16777216) as usize;
-    if 65 < k {
-        return 0;
-    }
+    let k = w / 16777216;
     if k == 36 {
         return if w / 65536 % 256 == 1 { 5 } else { 0 };
     }
     if 64 <= k {
+        if 65 < k {
+            return 0;
+        }
         return if 128 <= w / 65536 % 256 { 2 } else { 1 };
     }
-    GROWTH[k]
+    row_of(k) / 2 % 8
 }
 
-// The slots that are gone behind an op.
+// The slots that are gone behind an op. Kinds 30, 58, 64 and 65 are tested together: test by test it would become a table of jumps.
 pub fn stack_shrink(w: u32) -> u32
     ensures { λ r. ⌜ r ≡ figuresOf w .shrink ⌝ }
 {
-    let k = (w / 16777216) as usize;
+    let k = w / 16777216;
     if 65 < k {
         return 0;
     }
-    if k == 30 {
-        return w / 65536 % 256;
+    if k == 30 || k == 58 || 64 <= k {
+        let b = w / 65536 % 256;
+        return if 64 <= k { b % 128 } else { b };
     }
     if k == 34 {
         return w % 65536;
@@ -266,13 +78,7 @@ pub fn stack_shrink(w: u32) -> u32
     if k == 50 {
         return trap_shrink(w % 65536);
     }
-    if k == 58 {
-        return w / 65536 % 256;
-    }
-    if 64 <= k {
-        return w / 65536 % 128;
-    }
-    SHRINK[k]
+    row_of(k) % 2
 }
 
 // Trap's shrink by its code.

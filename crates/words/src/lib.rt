@@ -7,3 +7,4 @@ pub mod parts;
 pub mod reader;
 pub mod units;
 pub mod values;
+pub mod whole;

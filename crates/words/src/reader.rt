@@ -1,9 +1,15 @@
-// The reader: whether words are a module, word after word, and if not, where the form is broken.
+// The reader: whether words are a module, and if not, where the form is broken. It goes from stage to stage, and inside a stage past whole parts at once.
 use crate::fields::is_op;
+use crate::whole::is_constant;
+use crate::whole::is_extra;
+use crate::whole::past_constants;
+use crate::whole::past_extras;
+use crate::whole::past_ops;
 ghost use mathlib.Core.Path.{_≡_};
 ghost use Prim.Native.Nat.{_+_, _≤_, _<_};
 ghost use lib.ListN.{length, drop};
-ghost use Rattle.rules.specs.Reading.{beforeChunk, inConstants, inConstant, inOps, inExtras, inExtra, isHead, isChunk, isConstant, isExtra, chunkNext, constantNext, opNext, extraNext, step, mayEnd, brokenAt};
+ghost use Rattle.rules.specs.Reading.{beforeChunk, inConstants, inConstant, inOps, inExtras, inExtra, isHead, isChunk};
+ghost use Rattle.rules.specs.Reading.{chunkNext, constantNext, opNext, extraNext, step, mayEnd, brokenAt};
 ghost use Rattle.rules.specs.Sheet.{readOutcome};
 ghost use Rattle.words.specs.Reader.{readingOutcome, stageOf, nextOf, foundOf, counter};
 
@@ -21,6 +27,12 @@ pub enum Stage {
     InOps(u32, u32),
     InExtras(u32, u32),
     InExtra(u32, u32),
+}
+
+// A stage, and the position that it stands at.
+pub struct Place {
+    pub stage: Stage,
+    pub at: usize,
 }
 
 pub enum Next {
@@ -46,20 +58,6 @@ fn is_chunk(w: u32) -> bool
     ensures { λ r. ⌜ r ≡ isChunk w ⌝ }
 {
     w / 16777216 == 200 && w / 65536 % 256 <= 2
-}
-
-// A word of a constant of kind k with this b; where it is no integer, a is 0.
-fn is_constant(k: u32, b: u32, w: u32) -> bool
-    ensures { λ r. ⌜ r ≡ isConstant k b w ⌝ }
-{
-    w / 16777216 == k && w / 65536 % 256 == b && (k == 202 || w % 65536 == 0)
-}
-
-// Half of an extra: the low one has b 0, the high one b 1.
-fn is_extra(b: u32, w: u32) -> bool
-    ensures { λ r. ⌜ r ≡ isExtra b w ⌝ }
-{
-    w / 16777216 == 204 && w / 65536 % 256 == b
 }
 
 // A chunk's head, while chunks are to come.
@@ -199,6 +197,35 @@ fn step_on(s: Stage, w: u32) -> Next
     }
 }
 
+// Behind the whole constants, ops or extras that follow at `from`: read from there, the form is broken where it was.
+fn run_on(words: &[u32], from: usize, s: Stage) -> Place
+    requires { ⌜ (from ≤ length (now words)) × (length (now words) ≤ 16384) × (counter (stageOf s) ≤ from) ⌝ }
+    ensures within { λ r. ⌜ (from ≤ r .at) × (r .at ≤ length (now (words .entry))) × (counter (stageOf (r .stage)) ≤ r .at) ⌝ }
+    ensures same { λ r. ⌜ brokenAt (stageOf s) (drop from (now (words .entry))) from ≡ brokenAt (stageOf (r .stage)) (drop (r .at) (now (words .entry))) (r .at) ⌝ }
+{
+    match s {
+        Stage::InConstants(_) => Place {
+            stage: s,
+            at: past_constants(words, from),
+        },
+        Stage::InOps(k, n) => {
+            let at = past_ops(words, from);
+            Place {
+                stage: Stage::InOps(k + (at - from) as u32, n),
+                at,
+            }
+        }
+        Stage::InExtras(k, n) => {
+            let at = past_extras(words, from, k);
+            Place {
+                stage: Stage::InExtras(k - ((at - from) / 2) as u32, n),
+                at,
+            }
+        }
+        _ => Place { stage: s, at: from },
+    }
+}
+
 // Whether a module may end here.
 fn may_end(s: Stage) -> bool
     ensures { λ r. ⌜ r ≡ mayEnd (stageOf s) ⌝ }
@@ -225,8 +252,10 @@ fn broken_at(words: &[u32], chunks: u32) -> Found
         let Next::Goes(t) = next else {
             return Found::At(i);
         };
-        s = t;
         i += 1;
+        let p = run_on(words, i, t);
+        s = p.stage;
+        i = p.at;
     }
     if may_end(s) {
         Found::Nothing
@@ -235,7 +264,8 @@ fn broken_at(words: &[u32], chunks: u32) -> Found
     }
 }
 
-// Whether the words are a module: the number of its chunks, or refusal 1 or 2 with its place. Each word is looked at once.
+// Whether the words are a module: the number of its chunks, or refusal 1 or 2 with its place. One pass: only where constants, ops or extras end are the next
+// few words looked at again.
 pub fn read_module(words: &[u32]) -> Reading
     ensures { λ r. ⌜ readingOutcome r ≡ readOutcome (now (words .entry)) ⌝ }
 {

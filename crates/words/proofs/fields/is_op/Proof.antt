@@ -1,80 +1,58 @@
--- `is_op` is `isOp`: the two lists are the greatest a and b of each kind, which one test over each list shows. Assumes nothing.
-use mathlib.Core.Path.{_≡_, refl, sym}
-use mathlib.Core.Bool.{false}
-use mathlib.Core.List.{List, [], _∷_}
-use Prim.Native.Nat.{ℕ, _<_}
+-- `is_op` is `isOp`: the tests come in its order, and where b and a are 0, no more is asked than the kind. Assumes nothing.
+use mathlib.Core.Path.{_≡_, sym, _∙_}
+use mathlib.Core.Bool.{Bool, _&&_, and-false, or-true, or-false}
+use Prim.Native.Nat.{ℕ, _≤_}
+use native.Mathlib.Nat.{div-div-eq-div-mul}
 use native.Mathlib.Omega.{arith}
-use borrow.Author.Tests.{lt-leb}
-use lib.ListN.{getD}
-use Rattle.rules.specs.Ops.{kind, greatestB}
-use Rattle.words.proofs.Table.{entry}
-use Rattle.words.proofs.OpLaws.{greatestA, refused, held}
 use borrow.Author.Needs.{needs}
+use borrow.Author.Tests.{le-leb, lt-leb, ne-eqb}
+use lib.Dec.{leb}
+use Rattle.rules.specs.Ops.{kind, fieldA, fieldB, usesA}
 use Rattle.words.proofs.fields.is_op.Statement.{statement}
 use Rattle.words.proofs.fields.is_op.Tie as tie
 
-abbrev asByKind : List ℕ
-asByKind =
-    65535 ∷ 65535 ∷ 65535 ∷ 0 ∷ 0 ∷ 0 ∷ 0 ∷ 0 ∷ 0 ∷ 0 ∷ 0 ∷ 0 ∷ 0 ∷ 0 ∷ 0 ∷ 0 ∷ 0 ∷ 0 ∷ 0 ∷ 0 ∷ 0 ∷ 65535
-    ∷ 65535 ∷ 0 ∷ 65535 ∷ 65535 ∷ 65535 ∷ 65535 ∷ 0 ∷ 0 ∷ 65535 ∷ 0 ∷ 0 ∷ 0 ∷ 65535 ∷ 0 ∷ 0 ∷ 0 ∷ 0 ∷ 0 ∷ 0 ∷ 0 ∷ 0 ∷ 0
-    ∷ 0 ∷ 0 ∷ 0 ∷ 0 ∷ 0 ∷ 0 ∷ 65535 ∷ 0 ∷ 0 ∷ 0 ∷ 0 ∷ 0 ∷ 0 ∷ 0 ∷ 0 ∷ 0 ∷ 0 ∷ 0 ∷ 0 ∷ 0 ∷ 65535 ∷ 65535 ∷ []
+passes : (k b g : ℕ) (test : Bool) → k ≤ 65 → b ≤ g → (leb k 65 && leb b g && test) ≡ test
+passes k b g test h l = simp (le-leb k 65 h, le-leb b g l)
 
-abbrev bsByKind : List ℕ
-bsByKind =
-    0 ∷ 0 ∷ 0 ∷ 0 ∷ 0 ∷ 0 ∷ 0 ∷ 0 ∷ 0 ∷ 0 ∷ 0 ∷ 0 ∷ 0 ∷ 0 ∷ 0 ∷ 0 ∷ 0 ∷ 0 ∷ 0 ∷ 0 ∷ 0 ∷ 0 ∷ 0 ∷ 0 ∷ 0 ∷ 0 ∷ 0 ∷ 0 ∷ 0 ∷ 0 ∷ 255 ∷ 0 ∷ 0
-    ∷ 0 ∷ 3 ∷ 0 ∷ 1 ∷ 0 ∷ 0 ∷ 0 ∷ 0 ∷ 0 ∷ 0 ∷ 0 ∷ 0 ∷ 0 ∷ 0 ∷ 0 ∷ 0 ∷ 0 ∷ 0 ∷ 0 ∷ 0 ∷ 0 ∷ 0 ∷ 0 ∷ 0 ∷ 0 ∷ 255 ∷ 0 ∷ 0 ∷ 0 ∷ 0 ∷ 0 ∷ 255 ∷ 255 ∷ []
-
-a-at : (k : ℕ) → k < 66 → getD asByKind k 0 ≡ greatestA k
-a-at k h = entry (λ _. false) greatestA asByKind refl k h refl
-
-b-at : (k : ℕ) → k < 66 → getD bsByKind k 0 ≡ greatestB k
-b-at k h = entry (λ _. false) greatestB bsByKind refl k h refl
-
--- src/fields.rt:170:13
-cast-k : tie.Need-cast-k
-cast-k c = search needs
-
--- src/fields.rt:172:9
+-- src/fields.rt:58:9
 returns : tie.Need-returns
 returns c = simp (lt-leb _ _ (c .if1 .taken))
 
--- src/fields.rt:174:8
-mul-if2 : tie.Need-mul-if2
-mul-if2 c = search needs
-
--- src/fields.rt:174:8
-array-read-if2 : tie.Need-array-read-if2
-array-read-if2 c = search needs
-
--- src/fields.rt:175:9
+-- src/fields.rt:61:9
 returns-2 : tie.Need-returns-2
 returns-2 c =
     let w = c .before .before .args .w in
-    sym (refused w (rw (b-at (kind w) (omega arith)) at (c .if2 .taken)))
+    let d = div-div-eq-div-mul w 65536 256 in
+    let a : fieldA w ≡ 0 = omega arith in
+    sym (passes (kind w) (fieldB w) _ _ (omega arith) (omega arith) ∙ rw (a, or-true (usesA (kind w))))
 
--- src/fields.rt:177:18
-mul-result : tie.Need-mul-result
-mul-result c = search needs
+-- src/fields.rt:63:8
+greatest-b-requires : tie.Need-greatest-b-requires
+greatest-b-requires c κs = search needs
 
--- src/fields.rt:177:18
-array-read-result : tie.Need-array-read-result
-array-read-result c = search needs
-
--- src/fields.rt:167:1
+-- src/fields.rt:64:9
 returns-3 : tie.Need-returns-3
-returns-3 c =
-    let w = c .before .before .args .w in
-    rw (a-at (kind w) (omega arith)) (sym (held w (omega arith) (rw (b-at (kind w) (omega arith)) at (c .if2 .left))))
+returns-3 c = simp (lt-leb _ _ (rw (c .before .greatest-b .ensures) at (c .if3 .taken)), and-false)
+
+-- src/fields.rt:66:23
+uses-a-requires : tie.Need-uses-a-requires
+uses-a-requires c κs = search needs
+
+-- src/fields.rt:53:1
+returns-4 : tie.Need-returns-4
+returns-4 c =
+    let w = c .before .before .before .before .before .args .w in
+    let b = rw (c .before .before .greatest-b .ensures) at (c .before .if3 .left) in
+    sym (passes (kind w) _ _ _ (omega arith) b ∙ rw (c .if4 .taken) (or-true (usesA (kind w))))
+
+-- src/fields.rt:53:1
+returns-5 : tie.Need-returns-5
+returns-5 c =
+    let w = c .before .before .before .before .before .before .args .w in
+    let b = rw (c .before .before .before .greatest-b .ensures) at (c .before .before .if3 .left) in
+    c .uses-a .ensures ∙ sym (passes (kind w) _ _ _ (omega arith) b ∙ rw (ne-eqb (fieldA w) 0 (c .before .if4 .left)) (or-false (usesA (kind w))))
 
 pub is-op-spec : {M : Type 1} → statement M
 is-op-spec =
     tie.close
-    (tie.spec
-    cast-k
-    returns
-    mul-if2
-    array-read-if2
-    returns-2
-    mul-result
-    array-read-result
-    returns-3)
+    (tie.spec returns returns-2 greatest-b-requires returns-3 uses-a-requires returns-4 returns-5)

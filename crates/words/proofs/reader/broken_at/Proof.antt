@@ -1,7 +1,7 @@
 -- `broken_at` finds the place at which the form is broken. Invariant: the rest, read from the stage at hand, is broken where the whole is,
 -- and the stage's counter is at most the position. Measure: the words left. Assumes nothing.
 use mathlib.Core.Path.{_≡_, refl, sym, _∙_}
-use Prim.Native.Nat.{_-_, _≤_}
+use Prim.Native.Nat.{_+_, _-_, _≤_}
 use native.Mathlib.Omega.{arith}
 use borrow.Author.Needs.{needs}
 use lib.ListN.{length, drop}
@@ -44,15 +44,26 @@ returns c =
 add-i : tie.Need-add-i Inv-loop μ-loop
 add-i c = search needs
 
+onward : (c : tie.After-known-told Inv-loop μ-loop) → let l = c .before .before .before .before .before .before in
+    let ws = l .before .before .args .words .now in let t = stageOf (c .before .next .given .0 .0) in let i = l .loop .i in
+    (i + 1 ≤ length ws) × (counter t ≤ i + 1) × (brokenAt (stageOf (l .loop .s)) (drop i ws) i ≡ brokenAt t (drop (i + 1) ws) (i + 1))
+onward c =
+    let e = rw (c .before .next .given .1) at (c .before .before .before .step-on .ensures) in
+    let l = c .before .before .before .before .before in
+    goes-on _ _ _ _ (l .loop-test .taken) e (l .before .loop .inv .1)
+
+run-on-requires : tie.Need-run-on-requires Inv-loop μ-loop
+run-on-requires c κs =
+    let o = onward c in
+    (o .0, c .before .before .before .before .before .before .before .before .pre .1, o .1)
+
 loop-less : tie.Need-loop-less Inv-loop μ-loop
 loop-less c = search needs
 
 loop-again : tie.Need-loop-again Inv-loop μ-loop
 loop-again c =
-    let e = rw (c .before .next .given .1) at (c .before .before .before .step-on .ensures) in
-    let inv = c .before .before .before .before .before .before .loop .inv in
-    let more = goes-on _ _ _ _ (c .before .before .before .before .before .loop-test .taken) e (inv .1) in
-    (more .0, more .1, inv .2 ∙ more .2)
+    let r = c .run-on .ensures in
+    (r .0 .1, r .0 .2, c .before .before .before .before .before .before .before .loop .inv .2 ∙ onward (c .before) .2 ∙ r .1)
 
 may-end-requires : tie.Need-may-end-requires Inv-loop μ-loop
 may-end-requires c κs = search needs
@@ -79,6 +90,7 @@ broken-at-spec =
     enum-told
     returns
     add-i
+    run-on-requires
     loop-less
     loop-again
     may-end-requires

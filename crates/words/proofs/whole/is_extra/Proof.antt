@@ -1,7 +1,7 @@
 -- `is_extra` is the definition's test. Assumes nothing.
 use borrow.Author.Tests.{eq-eqb, ne-eqb}
-use Rattle.words.proofs.reader.is_extra.Statement.{statement}
-use Rattle.words.proofs.reader.is_extra.Tie as tie
+use Rattle.words.proofs.whole.is_extra.Statement.{statement}
+use Rattle.words.proofs.whole.is_extra.Tie as tie
 
 returns : tie.Need-returns
 returns c = rw (eq-eqb _ _ (c .if1 .taken))

@@ -5,8 +5,8 @@ use mathlib.Core.Logic.{⊎-elim}
 use borrow.Author.Tests.{eq-eqb, ne-eqb}
 use lib.Dec.{eqb}
 use Rattle.rules.specs.Ops.{kind, fieldB}
-use Rattle.words.proofs.reader.is_constant.Statement.{statement}
-use Rattle.words.proofs.reader.is_constant.Tie as tie
+use Rattle.words.proofs.whole.is_constant.Statement.{statement}
+use Rattle.words.proofs.whole.is_constant.Tie as tie
 
 first : (c : tie.Joined1) → let a = c .before .args in c .if1 .if2 ≡ (eqb (kind (a .w)) (a .k) && eqb (fieldB (a .w)) (a .b))
 first c = ⊎-elim (λ w. w .1 ∙ rw (eq-eqb _ _ (w .0 .taken))) (λ w. w .1 ∙ rw (ne-eqb _ _ (w .0 .left))) (c .if1 .came)
