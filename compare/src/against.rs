@@ -1,5 +1,4 @@
-//! Compares the proved functions with the original Rust, `verify.rs` unchanged, on the same modules. The stack walk, the order and the sheet have no proved
-//! function yet: there a plain Rust reading of document 01 is compared with the original.
+//! Compares the proved functions with the original Rust, `verify.rs` unchanged, on the same modules.
 extern crate value_layout;
 
 mod apart;
@@ -16,13 +15,16 @@ mod limits;
 mod passes;
 mod picks;
 mod programs;
+mod questions;
 #[allow(dead_code)]
 mod random;
+mod store;
 mod table;
 #[allow(dead_code)]
 #[path = "standin/text_size.rs"]
 mod text_size;
 mod times;
+mod typical;
 use passes::{verify_init, verify_typed};
 
 #[allow(dead_code, unexpected_cfgs)]
@@ -38,7 +40,7 @@ use picks::op;
 use random::Random;
 use table::{Each, Outcome};
 
-const ALL: [Each; 3] = [Each::Module, Each::Chunk, Each::Position];
+const ALL: [Each; 4] = [Each::Module, Each::Short, Each::Chunk, Each::Position];
 
 /// Every op with some fields: both readings of the table have the same figures, and what an op leaves of the depth is `op_depth_effect`'s.
 fn tables(counts: &mut Counts) {
@@ -82,7 +84,8 @@ fn worked(counts: &mut Counts) {
     }
 }
 
-/// Words that are no module, and chunks that there are not: refusals 1, 2 and 12, which only document 01 has.
+/// Words that are no module, and chunks that there are not: refusals 1, 2 and 12, which only document 01 has. The order and the sheet test no chunk, and their
+/// trays are looked at behind the words.
 fn refusals(counts: &mut Counts, random: &mut Random) {
     for _ in 0..50_000 {
         let mut words = form::write(&programs::module(random));
@@ -96,10 +99,15 @@ fn refusals(counts: &mut Counts, random: &mut Random) {
             Ok(_) => continue,
         };
         let p = random.pick(&[0, 3, 65_536, u32::MAX as usize]);
-        let ours = [
+        let mut ours = vec![
             table::unpack_cycles(table::cycles(&words, c)),
             table::unpack_count(table::count(&words, c, p)),
+            table::stack(&words, c, &[64, 0]),
         ];
+        if let Outcome::Refused(1 | 2, ..) = expected {
+            let room = random.below(9) as usize;
+            ours.extend([table::order(&words, room), table::sheet(&words, room)]);
+        }
         for outcome in ours {
             counts.comparisons += 1;
             if outcome != expected {
@@ -205,7 +213,7 @@ fn run(seed: u64, modules: u64) -> bool {
     tables(&mut counts);
     worked(&mut counts);
     apart::all(&mut counts);
-    limits::all(|case| counts.compare(&case, &[Each::Module, Each::Chunk]));
+    limits::all(|case| counts.compare(&case, &[Each::Module, Each::Short, Each::Chunk]));
     refusals(&mut counts, &mut random);
     told("worked cases and limits", &counts);
     lists(&mut counts);
@@ -226,16 +234,25 @@ fn run(seed: u64, modules: u64) -> bool {
 }
 
 fn main() {
-    let mut numbers = std::env::args()
-        .skip(1)
-        .map(|text| text.parse().expect("a number"));
+    let mut arguments = std::env::args().skip(1).peekable();
+    let mode = arguments.next_if(|text| text.parse::<u64>().is_err());
+    let mut numbers = arguments.map(|text| text.parse().expect("a number"));
     let seed = numbers.next().unwrap_or(1);
     let modules = numbers.next().unwrap_or(300_000);
+    let work = move || match mode.as_deref() {
+        None => run(seed, modules),
+        Some("times") => {
+            times::print();
+            true
+        }
+        Some("store") => {
+            store::all();
+            true
+        }
+        Some(other) => panic!("there is no mode {other}"),
+    };
     // The original's walks recurse, as does the reading of rows here.
-    let work = std::thread::Builder::new().stack_size(1 << 28);
-    let same = work
-        .spawn(move || run(seed, modules))
-        .expect("a thread")
-        .join();
+    let thread = std::thread::Builder::new().stack_size(1 << 28);
+    let same = thread.spawn(work).expect("a thread").join();
     std::process::exit(if same.is_ok_and(|same| same) { 0 } else { 1 });
 }

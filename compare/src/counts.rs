@@ -21,6 +21,9 @@ fn positions(case: &Case, c: usize, mut see: impl FnMut(usize)) {
     see(u32::MAX as usize);
 }
 
+/// By how many words a short tray is short: by one, by two, or by all.
+const SHORT: [usize; 3] = [1, 2, usize::MAX];
+
 /// How often each outcome was met in each comparison, and how many differed.
 #[derive(Default)]
 pub struct Counts {
@@ -31,22 +34,19 @@ pub struct Counts {
 }
 
 impl Counts {
-    /// The comparisons that are made once a module, once a chunk, or for each position, if they are among those wanted.
+    /// The comparisons that are made once a module, for short trays, once a chunk, or for each position, if they are among those wanted.
     pub fn compare(&mut self, case: &Case, wanted: &[Each]) {
         self.modules += 1;
         for (row, comparison) in COMPARISONS.iter().enumerate() {
             if !wanted.contains(&comparison.each) {
                 continue;
             }
-            let chunks = match comparison.each {
-                Each::Module => 1,
-                _ => case.chunks.len(),
-            };
-            for c in 0..chunks {
-                match comparison.each {
-                    Each::Position => positions(case, c, |p| self.one(row, case, c, p)),
-                    _ => self.one(row, case, c, 0),
-                }
+            match comparison.each {
+                Each::Module => self.one(row, case, 0, 0),
+                Each::Short => SHORT.iter().for_each(|&less| self.one(row, case, 0, less)),
+                Each::Chunk => (0..case.chunks.len()).for_each(|c| self.one(row, case, c, 0)),
+                Each::Position => (0..case.chunks.len())
+                    .for_each(|c| positions(case, c, |p| self.one(row, case, c, p))),
             }
         }
     }
@@ -58,6 +58,7 @@ impl Counts {
             Expected::Same(outcome @ Outcome::Refused(number, ..)) => {
                 (Met::Refusal(number), outcome)
             }
+            Expected::Same(Outcome::Spoilt) => panic!("the original has no lent buffer"),
             Expected::Apart(reason, outcome) => (Met::Apart(reason), outcome),
         };
         let ours = (comparison.ours)(case, c, p);

@@ -1,17 +1,29 @@
 //! The comparisons: for each a name, our answer and the original's, on the same input.
 use crate::case::Case;
-use crate::document::{self, Refusal, Stack};
+use crate::document::{self, Refusal};
 use crate::verify::oracle;
 
 unsafe extern "C" {
     fn pm_count(words: *const u32, length: usize, c: u32, p: u32) -> u64;
     fn pm_cycles(words: *const u32, length: usize, c: u32) -> u64;
+    fn pm_stack(
+        words: *const u32,
+        length: usize,
+        c: u32,
+        callees: *const u32,
+        count: usize,
+        out: *mut i64,
+    ) -> u64;
+    fn pm_order(words: *const u32, length: usize, tray: *mut u32, room: usize) -> u64;
+    fn pm_sheet(words: *const u32, length: usize, tray: *mut u32, room: usize) -> u64;
 }
 
+/// A spoilt buffer has a word changed that was to be left as it was; it is what no side expects.
 #[derive(Clone, Debug, PartialEq)]
 pub enum Outcome {
     Answer(Vec<i64>),
     Refused(u32, usize, usize),
+    Spoilt,
 }
 
 /// What our answer has to be: the original's, or where document 01's own test sets the input apart, what that test says.
@@ -21,12 +33,14 @@ pub enum Expected {
 }
 
 use Expected::{Apart, Same};
-use Outcome::{Answer, Refused};
+use Outcome::{Answer, Refused, Spoilt};
 
-/// What a comparison is made for: once a module, or for every chunk, or for every chunk and position.
+/// What a comparison is made for: once a module, for some trays that are too short by so many words (in the place of a position), for every chunk, or for every
+/// chunk and position.
 #[derive(Clone, Copy, PartialEq)]
 pub enum Each {
     Module,
+    Short,
     Chunk,
     Position,
 }
@@ -38,8 +52,8 @@ pub struct Comparison {
     pub original: fn(&Case, usize, usize) -> Expected,
 }
 
-/// A comparison more is a line more. The stack walk, the order and the sheet have no proved function yet: there "ours" is `document.rs`.
-pub const COMPARISONS: [Comparison; 6] = [
+/// A comparison more is a line more. Our side is a proved function in each.
+pub const COMPARISONS: [Comparison; 8] = [
     Comparison {
         name: "cycles",
         each: Each::Chunk,
@@ -66,22 +80,39 @@ pub const COMPARISONS: [Comparison; 6] = [
     Comparison {
         name: "stack",
         each: Each::Chunk,
-        ours: |case, c, _| our_stack(case, c, &case.callees),
+        ours: |case, c, _| stack(&case.words, c, &case.callees),
         original: |case, c, _| original_stack(case, c, &case.callees),
     },
     Comparison {
         name: "order",
         each: Each::Module,
-        ours: |case, _, _| listed(document::order(&case.chunks)),
+        ours: |case, _, _| order(&case.words, case.chunks.len() + spare(case)),
         original: |case, _, _| Same(listed(oracle::order(&case.module))),
     },
     Comparison {
         name: "sheet",
         each: Each::Module,
-        ours: our_sheet,
+        ours: |case, _, _| sheet(&case.words, 3 * case.chunks.len() + spare(case)),
         original: original_sheet,
     },
+    Comparison {
+        name: "order, short tray",
+        each: Each::Short,
+        ours: |case, _, less| order(&case.words, case.chunks.len().saturating_sub(less)),
+        original: |_, _, _| Apart("short tray", Refused(13, 0, 0)),
+    },
+    Comparison {
+        name: "sheet, short tray",
+        each: Each::Short,
+        ours: |case, _, less| sheet(&case.words, (3 * case.chunks.len()).saturating_sub(less)),
+        original: |_, _, _| Apart("short tray", Refused(13, 0, 0)),
+    },
 ];
+
+/// How many words a tray is longer than it has to be.
+fn spare(case: &Case) -> usize {
+    case.words.len() % 6
+}
 
 pub fn cycles(words: &[u32], c: usize) -> u64 {
     // The words are lent for the call, and only read.
@@ -91,6 +122,71 @@ pub fn cycles(words: &[u32], c: usize) -> u64 {
 pub fn count(words: &[u32], c: usize, p: usize) -> u64 {
     // The words are lent for the call, and only read.
     unsafe { pm_count(words.as_ptr(), words.len(), c as u32, p as u32) }
+}
+
+/// The stack walk's peak, delta and bytes. A refusal has to leave the lent array as it was.
+pub fn stack(words: &[u32], c: usize, callees: &[u32]) -> Outcome {
+    let before = [i64::MIN, 77, -5];
+    let mut out = before;
+    // The words and the callees are lent for the call, and only read; the array has room for three numbers.
+    let packed = unsafe {
+        pm_stack(
+            words.as_ptr(),
+            words.len(),
+            c as u32,
+            callees.as_ptr(),
+            callees.len(),
+            out.as_mut_ptr(),
+        )
+    };
+    match packed {
+        0 => Answer(out.to_vec()),
+        1 if out[1] == 0 => Answer(vec![out[0], ENDS, out[2]]),
+        1 => Spoilt,
+        _ if out == before => unpack_refusal(packed),
+        _ => Spoilt,
+    }
+}
+
+/// What stands at a place of a tray before the call.
+fn pattern(i: usize) -> u32 {
+    (i as u32).wrapping_mul(0x9e37_79b9) ^ 0xa5a5_a5a5
+}
+
+/// A function with a tray of so much room, each chunk having `wide` words of it: the numbers in the tray, and all words beyond them, or on a refusal all there
+/// are, as they were.
+fn with_tray(room: usize, wide: usize, call: impl FnOnce(&mut [u32]) -> u64) -> Outcome {
+    let mut tray: Vec<u32> = (0..room).map(pattern).collect();
+    let packed = call(&mut tray);
+    let (outcome, written) = match unpack_count(packed) {
+        Answer(chunks) => {
+            let written = wide * chunks[0] as usize;
+            let numbers = tray[..written].iter().map(|&word| i64::from(word));
+            (Answer(numbers.collect()), written)
+        }
+        refused => (refused, 0),
+    };
+    let left = (written..room).all(|i| tray[i] == pattern(i));
+    if left { outcome } else { Spoilt }
+}
+
+/// The call order in a tray of so much room.
+pub fn order(words: &[u32], room: usize) -> Outcome {
+    // The words are lent for the call, and only read; the tray is handed over with its length.
+    with_tray(room, 1, |tray| unsafe {
+        pm_order(words.as_ptr(), words.len(), tray.as_mut_ptr(), tray.len())
+    })
+}
+
+/// The module sheet into this tray: its packed outcome.
+pub fn fill_sheet(words: &[u32], tray: &mut [u32]) -> u64 {
+    // The words are lent for the call, and only read; the tray is handed over with its length.
+    unsafe { pm_sheet(words.as_ptr(), words.len(), tray.as_mut_ptr(), tray.len()) }
+}
+
+/// The module sheet in a tray of so much room.
+pub fn sheet(words: &[u32], room: usize) -> Outcome {
+    with_tray(room, 3, |tray| fill_sheet(words, tray))
 }
 
 /// A refusal has its number above 56 bits, its chunk above 32, and its place below.
@@ -178,27 +274,6 @@ fn original_public_cycles(case: &Case, c: usize, p: usize) -> Expected {
 /// What "ends" is among the values of a stack walk.
 pub const ENDS: i64 = i64::MAX;
 
-fn our_stack(case: &Case, c: usize, callees: &[u32]) -> Outcome {
-    let chunk = &case.chunks[c];
-    let walk = document::chunk_row(chunk).and_then(|row| {
-        let stack = Stack {
-            chunk,
-            callees,
-            counted: &|p| matches!(unpack_count(count(&case.words, c, p)), Answer(_)),
-        };
-        stack.walk(&row, document::DEEPEST)
-    });
-    match walk {
-        Err(refusal) => refused(refusal, c),
-        Ok(height) if document::too_tall(chunk.locals, height.peak) => Refused(11, c, 0),
-        Ok(height) => Answer(vec![
-            height.peak,
-            height.delta.unwrap_or(ENDS),
-            document::bytes(chunk.locals, height.peak),
-        ]),
-    }
-}
-
 fn original_stack(case: &Case, c: usize, callees: &[u32]) -> Expected {
     if document::chunk_row(&case.chunks[c]).err() == Some(Refusal(6, 0)) {
         return Apart("no row", Refused(6, c, 0));
@@ -223,67 +298,29 @@ fn listed(order: Result<Vec<usize>, usize>) -> Outcome {
     }
 }
 
-/// Chunk after chunk in an order: cycles, peak and bytes by chunk index, or the first refusal.
-fn sheet(
-    chunks: usize,
-    order: Outcome,
-    mut line: impl FnMut(usize, &[u32]) -> Result<[i64; 3], Expected>,
-) -> Expected {
-    let Answer(order) = order else {
-        return Same(order);
-    };
-    let mut lines = vec![0; 3 * chunks];
-    let mut bytes = vec![0; chunks];
-    for c in order {
-        let c = c as usize;
-        match line(c, &bytes) {
-            Ok(values) => {
-                lines[3 * c..3 * c + 3].copy_from_slice(&values);
-                bytes[c] = values[2] as u32;
-            }
-            Err(expected) => return expected,
-        }
-    }
-    Same(Answer(lines))
-}
-
-fn our_sheet(case: &Case, _: usize, _: usize) -> Outcome {
-    let made = sheet(
-        case.chunks.len(),
-        listed(document::order(&case.chunks)),
-        |c, bytes| match unpack_cycles(cycles(&case.words, c)) {
-            Answer(cost) => match our_stack(case, c, bytes) {
-                Answer(stack) => Ok([cost[0], stack[0], stack[2]]),
-                refused => Err(Same(refused)),
-            },
-            refused => Err(Same(refused)),
-        },
-    );
-    let (Same(outcome) | Apart(_, outcome)) = made;
-    outcome
-}
-
+/// Chunk after chunk in the original's order: cycles, peak and bytes by chunk index, or the first refusal.
 fn original_sheet(case: &Case, _: usize, _: usize) -> Expected {
-    let order = listed(oracle::order(&case.module));
-    let made = sheet(case.chunks.len(), order, |c, bytes| {
+    let order = match oracle::order(&case.module) {
+        Ok(order) => order,
+        Err(c) => return Same(Refused(10, c, 0)),
+    };
+    let mut lines = vec![0; 3 * order.len()];
+    let mut bytes = vec![0; order.len()];
+    for c in order {
         let cost = match original_cycles(case, c, 0) {
             Same(Answer(cost)) => cost,
-            Apart(_, outcome) => return Err(Apart("no row", outcome)),
-            refused => return Err(refused),
+            Apart(_, outcome) => return Apart("no row", outcome),
+            refused => return refused,
         };
-        match original_stack(case, c, bytes) {
-            Same(Answer(stack)) => Ok([cost[0], stack[0], stack[2]]),
-            other => Err(other),
-        }
-    });
-    // `module_wcmu` goes through the module by itself, and has to find the same bytes.
-    if let Same(Answer(lines)) = &made {
-        let bytes: Vec<i64> = lines.iter().skip(2).step_by(3).copied().collect();
-        let whole = oracle::module_bytes(&case.module).unwrap_or_default();
-        assert!(
-            bytes == whole.into_iter().map(i64::from).collect::<Vec<_>>(),
-            "module_wcmu has other bytes than {bytes:?}"
-        );
+        let stack = match original_stack(case, c, &bytes) {
+            Same(Answer(stack)) => stack,
+            other => return other,
+        };
+        lines[3 * c..3 * c + 3].copy_from_slice(&[cost[0], stack[0], stack[2]]);
+        bytes[c] = stack[2] as u32;
     }
-    made
+    // `module_wcmu` goes through the module by itself, and has to find the same bytes.
+    let whole = oracle::module_bytes(&case.module).unwrap_or_default();
+    assert!(bytes == whole, "module_wcmu has other bytes than {bytes:?}");
+    Same(Answer(lines))
 }

@@ -1,47 +1,99 @@
 //! Times of the proved functions and of the original on the same words.
+use crate::bytecode::Module;
 use crate::case;
-use crate::every;
+use crate::every::{self, chunk};
 use crate::form::{self, Chunk};
 use crate::limits;
 use crate::picks::op;
 use crate::table;
+use crate::typical;
 use crate::verify::oracle;
 use std::hint::black_box;
 use std::time::Instant;
 
-/// Nanoseconds a word in the fastest of 40 rounds.
-fn fastest<T>(words: &[u32], mut work: impl FnMut() -> T) -> f64 {
-    let mut best = f64::MAX;
-    for _ in 0..40 {
-        let start = Instant::now();
-        for _ in 0..10 {
-            black_box(work());
-        }
-        best = best.min(start.elapsed().as_nanos() as f64 / 10.0 / words.len() as f64);
+/// Nanoseconds a word of one round.
+fn round<T>(words: &[u32], calls: usize, mut work: impl FnMut() -> T) -> f64 {
+    let start = Instant::now();
+    for _ in 0..calls {
+        black_box(work());
     }
-    best
+    start.elapsed().as_nanos() as f64 / calls as f64 / words.len() as f64
 }
 
-/// The cycle walk of the first chunk: the proved function, which reads the words; the original with a plain reading before it; the original's walk alone.
-fn timed(name: &str, chunks: &[Chunk]) {
-    let words = form::write(chunks);
-    let module = case::module(chunks);
-    let ours = fastest(&words, || table::cycles(black_box(&words), 0));
-    let read = fastest(&words, || {
-        let Ok(chunks) = form::read(black_box(&words)) else {
-            panic!("{name} is a module")
-        };
-        oracle::cycles(&case::module(&chunks).chunks[0])
-    });
-    let walk = fastest(&words, || oracle::cycles(black_box(&module.chunks[0])));
+/// The module as the original holds it, by the plain reading.
+fn parsed(words: &[u32]) -> Module {
+    let Ok(chunks) = form::read(words) else {
+        panic!("these words are a module")
+    };
+    case::module(&chunks)
+}
+
+/// The fastest of 60 rounds each: ours, the original with a plain reading before it, and the original alone. The three come in turns, so that none has the
+/// quieter machine; a round makes some 100,000 words of calls.
+fn timed<T, U>(
+    name: &str,
+    words: &[u32],
+    mut ours: impl FnMut(&[u32]) -> T,
+    original: impl Fn(&Module) -> U,
+) {
+    let module = parsed(words);
+    let calls = 1 + 100_000 / words.len();
+    let mut best = [f64::MAX; 3];
+    for _ in 0..60 {
+        let met = [
+            round(words, calls, || ours(black_box(words))),
+            round(words, calls, || original(&parsed(black_box(words)))),
+            round(words, calls, || original(black_box(&module))),
+        ];
+        for (held, time) in best.iter_mut().zip(met) {
+            *held = held.min(time);
+        }
+    }
+    let [ours, read, alone] = best;
     println!(
-        "{name:<26} {:>6} {ours:>10.2} {read:>14.2} {walk:>10.2}",
-        words.len()
+        "{name:<38} {:>6} {ours:>8.2} {read:>14.2} {alone:>10.2} {:>6.2}",
+        words.len(),
+        ours / read
     );
 }
 
+/// The whole module: `pm_sheet`, and what the original has for a sheet. Both have to give the same lines.
+fn sheet(name: &str, chunks: &[Chunk]) {
+    let words = form::write(chunks);
+    let mut tray = vec![0; 3 * chunks.len()];
+    let packed = table::fill_sheet(&words, &mut tray);
+    assert_eq!(packed, chunks.len() as u64, "{name} has a sheet");
+    assert_eq!(
+        Some(&tray),
+        oracle::sheet(&parsed(&words)).as_ref(),
+        "{name}"
+    );
+    let ours = |words: &[u32]| table::fill_sheet(words, &mut tray);
+    timed(name, &words, ours, oracle::sheet);
+}
+
+/// The cycle walk of the first chunk. Both have to give the same cycles.
+fn cycles(name: &str, chunks: &[Chunk]) {
+    let words = form::write(chunks);
+    let original = |module: &Module| oracle::cycles(&module.chunks[0]);
+    let (cost, ends) = original(&parsed(&words)).expect("an answer");
+    let packed = table::cycles(&words, 0);
+    assert_eq!(packed, u64::from(ends) << 32 | u64::from(cost), "{name}");
+    timed(name, &words, |words| table::cycles(words, 0), original);
+}
+
+/// One chunk of plain ops alone, a module of so many words.
+fn plain(words: usize) -> Vec<Chunk> {
+    vec![chunk(
+        0,
+        0,
+        &[],
+        (0..words - 2).map(|_| op(33, 0, 0)).collect(),
+    )]
+}
+
 /// A row of many small blocks.
-fn blocks(n: usize) -> Chunk {
+fn blocks(n: usize) -> Vec<Chunk> {
     let mut ops = Vec::new();
     for _ in 0..n {
         let i = ops.len();
@@ -54,15 +106,15 @@ fn blocks(n: usize) -> Chunk {
             op(23, 0, 0),
         ]);
     }
-    every::chunk(0, 0, &[], ops)
+    vec![chunk(0, 0, &[], ops)]
 }
 
-/// Chunk L's loop many times over, its values set before each.
-fn loops(n: usize) -> Chunk {
+/// Chunk L's loop as often as so many words have room for, its values set before each.
+fn loops(words: usize) -> Vec<Chunk> {
     let mut held = every::worked(&[0, 3, 1]);
     held.ops.pop();
     let one: Vec<_> = held.ops.drain(..).collect();
-    for k in 0..n {
+    for k in 0..(words - 14) / one.len() {
         for part in &one {
             let target = if part.kind == 24 { 15 * k as u16 } else { 0 };
             held.ops.push(form::Op {
@@ -71,21 +123,55 @@ fn loops(n: usize) -> Chunk {
             });
         }
     }
-    held
+    vec![held]
 }
 
-pub fn print() {
+/// Chunks of 62 words that call each other in a chain, each the next.
+fn chain(words: usize) -> Vec<Chunk> {
+    let calling = |c| {
+        let mut ops: Vec<_> = (0..61).map(|_| op(32, 0, 0)).collect();
+        ops[30] = op(30, 0, c + 1);
+        chunk(0, 1, &[], ops)
+    };
+    (0..(words / 62).min(256)).map(calling).collect()
+}
+
+fn heading(of: &str) {
     println!(
-        "{:<26} {:>6} {:>10} {:>14} {:>10}",
-        "nanoseconds a word, cycles", "words", "proved", "read and walk", "walk alone"
+        "{:<38} {:>6} {:>8} {:>14} {:>10} {:>6}",
+        format!("nanoseconds a word, {of}"),
+        "words",
+        "ours",
+        "read, original",
+        "original",
+        "ratio"
     );
-    let mut plain = every::chunk(0, 0, &[], Vec::new());
-    plain.ops = (0..16_382).map(|_| op(33, 0, 0)).collect();
-    timed("plain ops", &[plain]);
-    timed("blocks one after another", &[blocks(2_730)]);
-    timed(
-        "256 blocks in one another",
-        &[limits::nested(256, &[0], None)],
+}
+
+/// The ratio is ours by the original with the reading, since ours reads the words too.
+pub fn print() {
+    heading("sheet");
+    sheet("plain ops, one chunk", &plain(16_002));
+    sheet("256 chunks in a chain", &chain(16_000));
+    sheet(
+        "255 blocks in one another",
+        &[limits::nested(255, &[0], None)],
     );
-    timed("loops one after another", &[loops(1_000)]);
+    sheet("counted loops", &loops(16_000));
+    sheet("typical program", &typical::program());
+    let growing: [(&str, fn(usize) -> Vec<Chunk>); 3] =
+        [("plain", plain), ("loops", loops), ("chain", chain)];
+    for (name, class) in growing {
+        for words in [1_000, 2_000, 4_000, 8_000, 16_000] {
+            sheet(&format!("{name}, about {words} words"), &class(words));
+        }
+    }
+    heading("cycles of chunk 0");
+    cycles("plain ops, one chunk", &plain(16_002));
+    cycles("blocks one after another", &blocks(2_730));
+    cycles(
+        "255 blocks in one another",
+        &[limits::nested(255, &[0], None)],
+    );
+    cycles("counted loops", &loops(16_000));
 }

@@ -105,6 +105,28 @@ pub fn module_bytes(module: &Module) -> Option<Vec<u32>> {
     Some(answer.into_iter().map(|(stack, _)| stack).collect())
 }
 
+/// A whole module for the times: the order, and chunk after chunk in it the cycles behind the forward test, and one walk of the stack, whose bytes the chunks
+/// after it look at. Cycles, peak and bytes by chunk index.
+pub fn sheet(module: &Module) -> Option<Vec<u32>> {
+    let slot = VALUE_SLOT_SIZE_BYTES;
+    let mut known = vec![Some((0, 0)); module.chunks.len()];
+    let mut lines = vec![0; 3 * module.chunks.len()];
+    for c in order(module).ok()? {
+        let chunk = &module.chunks[c];
+        let (cost, _) = cycles(chunk).ok()?;
+        let (start, end) = range(chunk).ok()?;
+        let resolver = CallResolver {
+            chunk_wcmu: &known,
+            ..CallResolver::empty()
+        };
+        let walk = wcmu_region(chunk, start, end, &mut Vec::new(), &resolver, slot).ok()?;
+        let bytes = (u32::from(chunk.local_count) + walk.peak_above_initial) * slot;
+        lines[3 * c..3 * c + 3].copy_from_slice(&[cost, walk.peak_above_initial, bytes]);
+        known[c] = Some((bytes, 0));
+    }
+    Some(lines)
+}
+
 /// `op_depth_effect`: what an op leaves of the depth.
 pub fn net(op: &Op, chunk: &Chunk) -> i32 {
     op_depth_effect(op, chunk).1

@@ -1,4 +1,6 @@
 // The proved functions under plain names, for programs in other languages to link.
+pub mod lent;
+
 use count::entry::CountAnswer;
 use count::entry::loop_count;
 use cycles::entry::CyclesAnswer;

@@ -6,7 +6,7 @@ use crate::range::check_forward_control_flow_targets;
 use crate::range::range_of;
 ghost use mathlib.Core.Path.{_≡_};
 ghost use mathlib.Core.Bool.{false};
-ghost use Prim.Native.Nat.{_-_, _≤_, _<_};
+ghost use Prim.Native.Nat.{_*_, _-_, _≤_, _<_};
 ghost use lib.ListN.{length};
 ghost use Rattle.rules.specs.Ops.{opAt};
 ghost use Rattle.rules.specs.Rows.{parse};
@@ -80,13 +80,12 @@ fn opens_at(ops: &[u32], i: usize, to: usize, in_loop: bool) -> Opening
     Opening::Crossed
 }
 
-// Whether the positions from `from` up to `to` are a row. A block that is open keeps the position at which its part ends; there an Else
-// goes on to its own target, and EndIf and EndLoop close the block.
-pub fn is_row(ops: &[u32], from: usize, to: usize) -> bool
-    requires { ⌜ (from ≤ to) × (to ≤ length (now ops)) × (length (now ops) ≤ 16384) ⌝ }
+// Whether the positions from `from` up to `to` are a row, in a lent array: a block takes two ops, so half the range is room enough. A block that is
+// open keeps the position at which its part ends; there an Else goes on to its own target, and EndIf and EndLoop close the block.
+fn row_within(ops: &[u32], from: usize, to: usize, ends: &mut [u32]) -> bool
+    requires { ⌜ (from ≤ to) × (to ≤ length (now ops)) × (length (now ops) ≤ 16384) × (to - from ≤ 2 * length (now ends)) ⌝ }
     ensures { λ r. ⌜ r ≡ isRow (parse (to - from) (opAt (now (ops .entry))) false from to) ⌝ }
 {
-    let mut ends = [0u32; 8192];
     let mut depth: usize = 0;
     let mut loops: usize = 0;
     let mut i = from;
@@ -109,24 +108,37 @@ pub fn is_row(ops: &[u32], from: usize, to: usize) -> bool
                     depth += 1;
                     loops += 1;
                 }
-                Opening::Crossed => {
-                    return false;
-                }
+                Opening::Crossed => return false,
             }
+        } else if ops[i] / 16777216 == 22 {
+            ends[depth - 1] = ops[i] % 65536;
         } else {
-            let w = ops[i];
-            if w / 16777216 == 22 {
-                ends[depth - 1] = w % 65536;
-            } else {
-                depth -= 1;
-                if w / 16777216 == 25 {
-                    loops -= 1;
-                }
+            depth -= 1;
+            if ops[i] / 16777216 == 25 {
+                loops -= 1;
             }
         }
         i += 1;
     }
     true
+}
+
+// Whether the positions from `from` up to `to` are a row. To make the largest array takes longer than to check a small range, so a small range has a
+// small one.
+pub fn is_row(ops: &[u32], from: usize, to: usize) -> bool
+    requires { ⌜ (from ≤ to) × (to ≤ length (now ops)) × (length (now ops) ≤ 16384) ⌝ }
+    ensures { λ r. ⌜ r ≡ isRow (parse (to - from) (opAt (now (ops .entry))) false from to) ⌝ }
+{
+    if to - from <= 64 {
+        let mut ends = [0u32; 32];
+        return row_within(ops, from, to, &mut ends);
+    }
+    if to - from <= 1024 {
+        let mut ends = [0u32; 512];
+        return row_within(ops, from, to, &mut ends);
+    }
+    let mut ends = [0u32; 8192];
+    row_within(ops, from, to, &mut ends)
 }
 
 // The range of a chunk that may be walked, or refusal 3, 4, 5 or 6.

@@ -32,3 +32,4 @@ pub mod CyclesBound
 pub mod Demand
 pub mod Checked
 pub mod Witness
+pub mod CalleeWitness

@@ -109,7 +109,7 @@ line-parts cs lines mid c size e same =
           ∙ ap (λ (l : Line). l .bytes) (List·getD-eq-default mid noLine (omega arith));
     }
 
-from-listing : (p : Listing) {order : List ℕ} → ringOutcome p ≡ answer order → p ≡ listed order
+pub from-listing : (p : Listing) {order : List ℕ} → ringOutcome p ≡ answer order → p ≡ listed order
 from-listing (listed order) e = cc
 from-listing (ring c) e = absurd (let z : _≡_ {A = ℕ} 0 1 = cc in omega arith)
 

@@ -27,7 +27,7 @@ abbrev entryTest : Chunk → List Entry → Bool
 entryTest c [] = true
 entryTest c (e ∷ es) = within (e .passed) (countAt (c .constants) (c .ops) (e .loop))
 
-unfoldable countsTest : List Chunk → Bool → Spot → List Way → Bool
+unfoldable pub countsTest : List Chunk → Bool → Spot → List Way → Bool
 countsTest cs run s [] = true
 countsTest cs run over (w ∷ ws) = true
 countsTest cs run (here f gs) (w ∷ ws) = entryTest (chunkAt cs (f .chunk)) (f .entries) && countsTest cs run (go cs run f gs w) ws
@@ -36,7 +36,7 @@ entry-kept : (cs : List Chunk) (c : Chunk) (k : ℕ) (es : List Entry) → entry
 entry-kept cs c k [] t = tt
 entry-kept cs c k (e ∷ es) t = λ reach n is. leb-true (e .passed) n (sym (ap (within (e .passed)) is) ∙ t)
 
-keeps-counts : (cs : List Chunk) (run : Bool) (s : Spot) (ways : List Way) → countsTest cs run s ways ≡ true → KeepsCounts cs run s ways
+pub keeps-counts : (cs : List Chunk) (run : Bool) (s : Spot) (ways : List Way) → countsTest cs run s ways ≡ true → KeepsCounts cs run s ways
 unfolding countsTest KeepsCounts
 keeps-counts cs run s [] t = tt
 keeps-counts cs run over (w ∷ ws) t = tt
@@ -45,12 +45,12 @@ keeps-counts cs run (here f gs) (w ∷ ws) t =
     (entry-kept cs (chunkAt cs (f .chunk)) (f .chunk) (f .entries) (p .0), keeps-counts cs run (go cs run f gs w) ws (p .1))
 
 -- the same for the depths: each whole pass and break on the way leaves at most the depth at its entry
-unfoldable depthsTest : List Chunk → Bool → Spot → List Way → Bool
+unfoldable pub depthsTest : List Chunk → Bool → Spot → List Way → Bool
 depthsTest cs run s [] = true
 depthsTest cs run over (w ∷ ws) = true
 depthsTest cs run (here f gs) (w ∷ ws) = depthKept cs (shapeOf (opOf cs f)) f w && depthsTest cs run (go cs run f gs w) ws
 
-keeps-depths : (cs : List Chunk) (run : Bool) (s : Spot) (ways : List Way) → depthsTest cs run s ways ≡ true → KeepsDepths cs run s ways
+pub keeps-depths : (cs : List Chunk) (run : Bool) (s : Spot) (ways : List Way) → depthsTest cs run s ways ≡ true → KeepsDepths cs run s ways
 unfolding depthsTest KeepsDepths
 keeps-depths cs run s [] t = tt
 keeps-depths cs run over (w ∷ ws) t = tt

@@ -6,7 +6,7 @@ use mathlib.Core.List.{List, [], _∷_, _++_}
 use Prim.Native.Nat.{ℕ, zero, suc, _+_, _*_, _<_, _≤_, min}
 use native.Mathlib.Omega.{arith}
 use lib.ListN.{length, getD, drop, set, replicate, length-set, length-replicate}
-use Rattle.rules.specs.Outcome.{answer, inChunk}
+use Rattle.rules.specs.Outcome.{Outcome, answer, refused, inChunk}
 use Rattle.rules.specs.Form.{Chunk}
 use Rattle.rules.specs.Reading.{read}
 use Rattle.rules.specs.Cycles.{cycleCap}
@@ -19,6 +19,8 @@ use Rattle.rules.proofs.SheetLines.{accepted-sheet}
 use Rattle.rules.proofs.StackBound.{stack-bounded}
 use Rattle.rules.proofs.Demand.{cycles-bounded}
 use Rattle.words.specs.Parts.{chunksIn}
+use Rattle.sheets.specs.declared.module.SheetAnswer.the-variants.{Lines}
+use Rattle.sheets.specs.Module.{answerOutcome, countOf}
 
 -- an accepted module's chunks are those of the words
 accepts : (ws : List ℕ) (room : ℕ) (s : Sheet) → sheetOutcome ws room ≡ answer s → Accepted ws room (chunksIn ws) s
@@ -77,3 +79,30 @@ module _ (ws tray : List ℕ) (s : Sheet) (answers : sheetOutcome ws (length tra
       → pathBytes (chunksIn ws) c (path (chunksIn ws) true (begin (chunksIn ws) c) ways) ≤ getD (sheetTray (answer s) tray) (3 * c + 2) 0
   tray-bytes keeps =
       rw (bytes-at (s .lines) (drop (3 * length (s .lines)) tray) c lined) (stack-bounded ws (length tray) (chunksIn ws) s accepted c lt ways keeps)
+
+-- an answer that counts lines comes from a sheet with so many
+from-count : (o : Outcome Sheet) (n : ℕ) → answerOutcome (Lines n) ≡ countOf o → (s : Sheet) × (o ≡ answer s) × (length (s .lines) ≡ n)
+from-count (answer s) n e = (s, refl, cc)
+from-count (refused m c p) n e = absurd (let z : _≡_ {A = ℕ} 0 1 = cc in omega arith)
+
+-- A call of `module_sheet` that came back with Lines n, by the two clauses of its contract alone: the tray was lent as `tray` and is left as `after`.
+module _ (ws tray after : List ℕ) (n : ℕ) (answered : answerOutcome (Lines n) ≡ countOf (sheetOutcome ws (length tray)))
+    (written : after ≡ sheetTray (sheetOutcome ws (length tray)) tray) (c : ℕ) (lt : c < n) (ways : List Way) where
+  counted : (s : Sheet) × (sheetOutcome ws (length tray) ≡ answer s) × (length (s .lines) ≡ n)
+  counted = from-count (sheetOutcome ws (length tray)) n answered
+
+  in-module : c < length (chunksIn ws)
+  in-module = omega (arith, counted .2, all-lines (accepts ws (length tray) (counted .0) (counted .1)))
+
+  left : after ≡ sheetTray (answer (counted .0)) tray
+  left = written ∙ ap (λ (o : Outcome Sheet). sheetTray o tray) (counted .1)
+
+  -- the cycles of every path through chunk c that keeps its loops' counts, up to the cap, are at most the number that the caller finds at 3c
+  pub call-cycles : KeepsCounts (chunksIn ws) false (begin (chunksIn ws) c) ways
+      → min cycleCap (pathCycles (chunksIn ws) (path (chunksIn ws) false (begin (chunksIn ws) c) ways)) ≤ getD after (3 * c) 0
+  call-cycles keeps = rw left (tray-cycles ws tray (counted .0) (counted .1) c in-module ways keeps)
+
+  -- and its stack bytes, callees run, where it keeps its depths, at most the number at 3c + 2
+  pub call-bytes : KeepsDepths (chunksIn ws) true (begin (chunksIn ws) c) ways
+      → pathBytes (chunksIn ws) c (path (chunksIn ws) true (begin (chunksIn ws) c) ways) ≤ getD after (3 * c + 2) 0
+  call-bytes keeps = rw left (tray-bytes ws tray (counted .0) (counted .1) c in-module ways keeps)

@@ -1,34 +1,35 @@
--- The sheet of a module, from the call order: a ring refuses, and an order of all chunks gives their lines. Assumes nothing.
+-- The sheet of a module, from the call order: a ring refuses, and an order of all chunks gives their lines.
+-- Assumes nothing.
 use mathlib.Core.Path.{_≡_, refl, sym, ap, _∙_}
 use mathlib.Core.List.{List, [], _∷_}
 use Prim.Native.Nat.{ℕ, zero, suc, _<_, _≤_}
 use native.Mathlib.Omega.{arith}
 use lib.ListN.{length, getD, take, replicate}
 use lib.Seq.{getD-take}
-use Rattle.rules.specs.Outcome.{Outcome, answer, refused, followedBy}
+use Rattle.rules.specs.Outcome.{answer, refused, followedBy}
+use Rattle.rules.specs.Form.{Chunk}
 use Rattle.rules.specs.Order.{Listing, listed, ring, callOrder}
 use Rattle.rules.specs.Sheet as R
 use Rattle.rules.specs.Sheet.{noLine, linesIn, sheetOf, ringOutcome}
+use Rattle.rules.proofs.Answers.{from-answer}
 use Rattle.rules.proofs.Members.{In, in-head, in-tail, pigeonhole}
 use Rattle.rules.proofs.CallOrder.{order-sound}
-use Rattle.words.specs.Parts.{chunksIn, headAt}
+use Rattle.rules.proofs.SheetLines.{from-listing}
+use Rattle.words.specs.Parts.{chunksIn}
+use Rattle.words.specs.declared.heads.Places.{Places}
+use Rattle.words.specs.Places.{PlacedAt}
 use Rattle.order.specs.declared.visit.Search.{Search}
 use Rattle.order.specs.Search.{Readable, Shows, Shown}
 use Rattle.order.proofs.VisitLaws.{few-chunks}
 use Rattle.order.proofs.MarkLaws.{told-listed, told-ring}
 use Rattle.order.proofs.CoverLaws.{covers}
-use Rattle.sheets.specs.Module.{linesOf, Ordering}
+use Rattle.sheets.specs.Module.{inOrder, Ordering}
 use Rattle.sheets.proofs.TurnLaws.{whole}
 
 member-at : (xs : List ℕ) (j : ℕ) → j < length xs → In (getD xs j 0) xs
 member-at [] j h = absurd (omega arith)
 member-at (x ∷ xs) zero h = in-head x x xs refl
 member-at (x ∷ xs) (suc j) h = in-tail (getD xs j 0) x xs (member-at xs j (omega arith))
-
--- a sheet has the lines that were worked out, whatever its order is called
-same-lines : (order : List ℕ) (o : Outcome (List R.Line)) → o ≡ linesOf (followedBy o (λ lines. answer (record { order = order; lines = lines })))
-same-lines order (answer lines) = refl
-same-lines order (refused n c p) = refl
 
 module _ {ws : List ℕ} {n : ℕ} (words : Readable ws n) (s : Search) (shown : Shown s n [] (callOrder (chunksIn ws))) where
   -- what the lines come to, from what the search came to
@@ -38,8 +39,8 @@ module _ {ws : List ℕ} {n : ℕ} (words : Readable ws n) (s : Search) (shown :
       (λ lines. answer (record { order = order; lines = lines })))
   sheet-from l e = rw e
 
-  pub ring-sheet : s .ring < 256 → refused 10 (s .ring) 0 ≡ linesOf (sheetOf (chunksIn ws))
-  ring-sheet met = sym (ap linesOf (sheet-from (ring (s .ring)) (told-ring n s [] (callOrder (chunksIn ws)) met shown .1)))
+  pub ring-sheet : s .ring < 256 → refused 10 (s .ring) 0 ≡ sheetOf (chunksIn ws)
+  ring-sheet met = sym (sheet-from (ring (s .ring)) (told-ring n s [] (callOrder (chunksIn ws)) met shown .1))
 
   module _ (none : 256 ≤ s .ring) where
     all : (d : List ℕ) × Shows s n [] d × (callOrder (chunksIn ws) ≡ listed d)
@@ -54,21 +55,27 @@ module _ {ws : List ℕ} {n : ℕ} (words : Readable ws n) (s : Search) (shown :
         let count : s .count ≡ n = omega (arith, h .count) in
         (omega (arith, h .count), cc (h .order))
 
-    pub lines-sheet : whole ws (s .order) n ≡ linesOf (sheetOf (chunksIn ws))
+    pub lines-sheet : inOrder (take n (s .order)) (whole ws (s .order) n) ≡ sheetOf (chunksIn ws)
     lines-sheet =
-        let from = ap linesOf (sheet-from (listed (all .0)) (all .2)) in
-        let same = same-lines (all .0) (linesIn (all .0) (chunksIn ws) (replicate (length (chunksIn ws)) noLine)) in
-        rw (front .1) (ap (λ (m : ℕ). linesIn (all .0) (chunksIn ws) (replicate m noLine)) (words .chunks) ∙ same ∙ sym from)
+        rw (front .1) (ap (λ (m : ℕ). inOrder (all .0) (linesIn (all .0) (chunksIn ws) (replicate m noLine))) (words .chunks)
+        ∙ sym (sheet-from (listed (all .0)) (all .2)))
 
-    pub ordering : (heads : List ℕ) → n ≤ length heads → ((k : ℕ) → k < n → getD heads k 0 ≡ headAt (chunksIn ws) k) → Ordering ws heads (s .order) n
-    ordering heads room at =
+    pub ordering : (places : Places) → ((k : ℕ) → k < n → PlacedAt ws places k) → Ordering ws places (s .order) n
+    ordering places placed =
         record {
           words = words;
-          heads-at = at;
-          heads-room = room;
+          placed = placed;
           chunks = λ j lt.
               let there = member-at (all .0) j (omega (arith, front .0)) in
               let same : getD (all .0) j 0 ≡ getD (s .order) j 0 = sym (ap (λ (l : List ℕ). getD l j 0) (front .1)) ∙ getD-take n (s .order) j 0 lt in
               rw same at (all .1 .chunks (getD (all .0) j 0) there);
           order-room = omega (arith, few-chunks words, all .1 .sized .order);
         }
+
+-- a sheet's order lists chunks of the module
+pub order-chunks : (cs : List Chunk) (s : R.Sheet) → sheetOf cs ≡ answer s → (j : ℕ) → j < length (s .order) → getD (s .order) j 0 < length cs
+order-chunks cs s e j lt =
+    let a = from-answer (ringOutcome (callOrder cs)) _ e in
+    let b = from-answer (linesIn (a .0) cs (replicate (length cs) noLine)) _ (a .2) in
+    let same : s .order ≡ a .0 = cc (b .2) in
+    order-sound cs (s .order) (from-listing (callOrder cs) (rw same (a .1))) .only (getD (s .order) j 0) (member-at (s .order) j lt)

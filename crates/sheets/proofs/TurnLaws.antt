@@ -12,7 +12,9 @@ use Rattle.rules.specs.Sheet as R
 use Rattle.rules.specs.Sheet.{noLine, chunkLine, linesIn}
 use Rattle.rules.proofs.ReadingAgrees.{read-words}
 use Rattle.words.specs.declared.parts.Parts.{Parts}
-use Rattle.words.specs.Parts.{partsAt, chunksIn, PartsOf}
+use Rattle.words.specs.Parts.{partsFrom, chunksIn, PartsOf}
+use Rattle.words.specs.declared.heads.Places.{Places}
+use Rattle.words.specs.Places.{PlacedAt}
 use Rattle.words.proofs.PartLaws.{chunk-fits, at-within, chunk-parts}
 use Rattle.lines.specs.Line.{LineFits}
 use Rattle.sheets.specs.Module.{lineList, Ordering}
@@ -82,16 +84,26 @@ module _ {ws order : List ℕ} {n j : ℕ} {cycles peaks bytes : List ℕ} (l : 
     lined-refuses m p e = sym (turn ∙ ap rest (sym e))
 
 -- the parts of the chunk whose turn it is
-module _ {ws heads order : List ℕ} {n : ℕ} (o : Ordering ws heads order n) (j : ℕ) (more : j < n) where
+module _ {ws order : List ℕ} {places : Places} {n : ℕ} (o : Ordering ws places order n) (j : ℕ) (more : j < n) where
   below : getD order j 0 < length (chunksIn ws)
   below = omega (arith, o .chunks j more, o .words .chunks)
 
-  pub turn-head : getD heads (getD order j 0) 0 < length ws
-  turn-head = at-within ws (chunksIn ws) (o .words .reads) (getD order j 0) below _ (o .heads-at (getD order j 0) (o .chunks j more))
+  placed : PlacedAt ws places (getD order j 0)
+  placed = o .placed (getD order j 0) (o .chunks j more)
 
-  module _ (p : Parts) (is : p ≡ partsAt ws (getD heads (getD order j 0) 0)) where
+  pub turn-head : getD (places .heads) (getD order j 0) 0 < length ws
+  turn-head = at-within ws (chunksIn ws) (o .words .reads) (getD order j 0) below _ (placed .head)
+
+  -- they are at the places that were kept
+  abbrev pub turnParts : Parts
+  turnParts =
+      let k = getD order j 0 in
+      partsFrom ws (getD (places .heads) k 0) (getD (places .ops) k 0) (getD (places .extras) k 0) (getD (places .ends) k 0)
+
+  module _ (p : Parts) (is : p ≡ turnParts) where
     pub turn-parts : PartsOf ws p (chunkAt (chunksIn ws) (getD order j 0))
-    turn-parts = rw (is, o .heads-at (getD order j 0) (o .chunks j more)) (chunk-parts ws (chunksIn ws) (o .words .reads) (getD order j 0) below)
+    turn-parts =
+        rw (is, placed .head, placed .ops-at, placed .extras-at, placed .end-at) (chunk-parts ws (chunksIn ws) (o .words .reads) (getD order j 0) below)
 
     pub turn-fits : LineFits ws p
     turn-fits =

@@ -2,8 +2,9 @@
 use lines::line::LineAnswer;
 use lines::line::chunk_line;
 use order::entry::call_order;
+use words::heads::Places;
 use words::heads::chunk_places;
-use words::parts::parts_at;
+use words::parts::parts_from;
 use words::reader::Reading;
 use words::reader::read_module;
 ghost use mathlib.Core.Path.{_≡_};
@@ -14,14 +15,15 @@ ghost use Rattle.rules.specs.Outcome.{refused};
 ghost use Rattle.rules.specs.Sheet.{noLine, linesIn, sheetOf, sheetOutcome, trayNumbers, sheetTray};
 ghost use Rattle.words.specs.Parts.{chunksIn};
 ghost use Rattle.order.specs.Search.{Readable};
-ghost use Rattle.sheets.specs.Module.{lineList, sheetLines, linesOf, answerOutcome, countOf, Ordering};
+ghost use Rattle.sheets.specs.Module.{lineList, inOrder, sheetIs, answerOutcome, countOf, Ordering};
 
-// A sheet as it is worked out: the figures of the lines by chunk index, or, where it refuses, the refusal.
+// A sheet as it is worked out: the call order and the figures of the lines by chunk index, or, where it refuses, the refusal.
 pub struct Sheet {
     pub refuses: bool,
     pub number: u32,
     pub chunk: usize,
     pub place: usize,
+    pub order: [u32; 256],
     pub cycles: [u32; 256],
     pub peaks: [u32; 256],
     pub bytes: [u32; 256],
@@ -78,10 +80,9 @@ pub fn module_sheet(words: &[u32], tray: &mut [u32]) -> SheetAnswer
 // The sheet of words that are a module of n chunks: the call order, then chunk after chunk in that order.
 pub fn sheet_of(words: &[u32], n: usize) -> Sheet
     requires { ⌜ Readable (now words) n ⌝ }
-    ensures { λ r. ⌜ sheetLines n r ≡ linesOf (sheetOf (chunksIn (now (words .entry)))) ⌝ }
+    ensures { λ r. ⌜ sheetIs n r ≡ sheetOf (chunksIn (now (words .entry))) ⌝ }
 {
     let places = chunk_places(words, n);
-    let heads = places.heads;
     let ops_at = places.ops;
     let extras_at = places.extras;
     let s = call_order(words, &ops_at, &extras_at, n);
@@ -89,13 +90,13 @@ pub fn sheet_of(words: &[u32], n: usize) -> Sheet
         return refusal(10, s.ring, 0);
     }
     let order = s.order;
-    sheet_lines(words, &heads, &order, n)
+    sheet_lines(words, places, order, n)
 }
 
-// The lines of the chunks whose heads these are, in call order.
-pub fn sheet_lines(words: &[u32], heads: &[usize], order: &[u32], n: usize) -> Sheet
-    requires { ⌜ Ordering (now words) (now heads) (now order) n ⌝ }
-    ensures { λ r. ⌜ sheetLines n r ≡ linesIn (take n (now (order .entry))) (chunksIn (now (words .entry))) (replicate n noLine) ⌝ }
+// The lines of the chunks that stand at these places, in call order.
+fn sheet_lines(words: &[u32], places: Places, order: [u32; 256], n: usize) -> Sheet
+    requires { ⌜ Ordering (now words) places order n ⌝ }
+    ensures { λ r. ⌜ sheetIs n r ≡ inOrder (take n order) (linesIn (take n order) (chunksIn (now (words .entry))) (replicate n noLine)) ⌝ }
 {
     let mut cycles = [0u32; 256];
     let mut peaks = [0u32; 256];
@@ -103,7 +104,10 @@ pub fn sheet_lines(words: &[u32], heads: &[usize], order: &[u32], n: usize) -> S
     let mut j = 0;
     while j < n {
         let c = order[j] as usize;
-        let p = parts_at(words, heads[c]);
+        let at = places.heads[c];
+        let ops = places.ops[c];
+        let extras = places.extras[c];
+        let p = parts_from(words, at, ops, extras, places.ends[c]);
         let answer = chunk_line(words, p, &bytes[..n]);
         let line = match answer {
             LineAnswer::Is(l) => l,
@@ -121,6 +125,7 @@ pub fn sheet_lines(words: &[u32], heads: &[usize], order: &[u32], n: usize) -> S
         number: 0,
         chunk: 0,
         place: 0,
+        order,
         cycles,
         peaks,
         bytes,
@@ -129,13 +134,14 @@ pub fn sheet_lines(words: &[u32], heads: &[usize], order: &[u32], n: usize) -> S
 
 // A sheet that refuses.
 fn refusal(number: u32, chunk: usize, place: usize) -> Sheet
-    ensures { λ r. ⌜ ((n : ℕ) → sheetLines n r ≡ refused number chunk place) ⌝ }
+    ensures { λ r. ⌜ ((n : ℕ) → sheetIs n r ≡ refused number chunk place) ⌝ }
 {
     Sheet {
         refuses: true,
         number,
         chunk,
         place,
+        order: [0; 256],
         cycles: [0; 256],
         peaks: [0; 256],
         bytes: [0; 256],

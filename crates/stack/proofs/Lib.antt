@@ -1,4 +1,5 @@
 pub mod SignedLaws
+pub mod DistanceLaws
 pub mod LevelLaws
 pub mod HeightLaws
 pub mod BoundLaws

@@ -23,6 +23,11 @@ spelt : (at : ℕ) (xs l : List ℕ) → pasted at xs l ≡ take at l ++ (xs ++ 
 unfolding pasted
 spelt at xs l = refl
 
+-- the list that a text was written over holds it
+pub pasted-holds : (xs l : List ℕ) {m : List ℕ} {r : ℕ} → m ≡ pasted 0 xs l → r ≡ length xs → r ≤ length m
+unfolding pasted
+pasted-holds xs l e f = rw (e, f) (simp (length-append, length-drop) (omega arith))
+
 module _ (at : ℕ) (xs l : List ℕ) (fits : at + length xs ≤ length l) where
   pub pasted-length : length (pasted at xs l) ≡ length l
   unfolding pasted

@@ -110,6 +110,7 @@ pub fn put_line(out: &mut [u8], at: usize, c: u32, cycles: u32, peak: u32, bytes
     requires { ⌜ at + 44 ≤ length (now out) ⌝ }
     ensures written { λ _. ⌜ now (out .exit) ≡ pasted at (lineText c (record { cycles = cycles; peak = peak; bytes = bytes })) (now (out .entry)) ⌝ }
     ensures next { λ r. ⌜ r ≡ at + length (lineText c (record { cycles = cycles; peak = peak; bytes = bytes })) ⌝ }
+    ensures short { λ r. ⌜ r ≤ at + 44 ⌝ }
 {
     let first = put_field(out, at, c as u64, b' ');
     let second = put_field(out, first, cycles as u64, b' ');

@@ -20,19 +20,17 @@ runOf low high ws = takeWhile (ofKinds low high) ws
 abbrev pub behindRun : ℕ → ℕ → List ℕ → ℕ → ℕ
 behindRun low high ws from = from + length (runOf low high (drop from ws))
 
+-- the parts of a chunk from its head's position, and where its ops and extras begin and it ends
+abbrev pub partsFrom : List ℕ → ℕ → ℕ → ℕ → ℕ → Parts
+partsFrom ws at ops extras end =
+    record { locals = fieldA (getD ws at 0); mode = fieldB (getD ws at 0); constants = at + 1; ops = ops; extras = extras; end = end }
+
 -- the parts of the chunk whose head stands at a position: constants of kinds 202 and 203, ops of kinds 0 to 65, extras of kind 204
 abbrev pub partsAt : List ℕ → ℕ → Parts
 partsAt ws at =
     let ops = behindRun 202 203 ws (at + 1) in
     let extras = behindRun 0 65 ws ops in
-    record {
-      locals = fieldA (getD ws at 0);
-      mode = fieldB (getD ws at 0);
-      constants = at + 1;
-      ops = ops;
-      extras = extras;
-      end = behindRun 204 204 ws extras;
-    }
+    partsFrom ws at ops extras (behindRun 204 204 ws extras)
 
 -- the words from one position up to another
 abbrev pub partOf : ℕ → ℕ → List ℕ → List ℕ

@@ -2,7 +2,7 @@
 ghost use mathlib.Core.Path.{_≡_};
 ghost use Prim.Native.Nat.{_+_, _-_, _≤_, _<_};
 ghost use lib.ListN.{length, drop};
-ghost use Rattle.words.specs.Parts.{runOf, partsAt, partOf};
+ghost use Rattle.words.specs.Parts.{runOf, partsFrom, partsAt, partOf};
 
 // A chunk's locals and type (`mode`: 0 Func, 1 Reentrant, 2 Stream), and where its constants, ops and extras begin and the chunk ends.
 pub struct Parts {
@@ -35,15 +35,22 @@ pub fn parts_at(words: &[u32], at: usize) -> Parts
     requires { ⌜ at < length (now words) ⌝ }
     ensures { λ r. ⌜ r ≡ partsAt (now (words .entry)) at ⌝ }
 {
-    let head = words[at];
-    let constants = at + 1;
-    let ops = behind_run(words, constants, 202, 203);
+    let ops = behind_run(words, at + 1, 202, 203);
     let extras = behind_run(words, ops, 0, 65);
     let end = behind_run(words, extras, 204, 204);
+    parts_from(words, at, ops, extras, end)
+}
+
+// The parts of a chunk whose places are known: its head gives the rest.
+pub fn parts_from(words: &[u32], at: usize, ops: usize, extras: usize, end: usize) -> Parts
+    requires { ⌜ at < length (now words) ⌝ }
+    ensures { λ r. ⌜ r ≡ partsFrom (now (words .entry)) at ops extras end ⌝ }
+{
+    let head = words[at];
     Parts {
         locals: head % 65536,
         mode: head / 65536 % 256,
-        constants,
+        constants: at + 1,
         ops,
         extras,
         end,

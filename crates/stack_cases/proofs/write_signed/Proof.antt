@@ -1,7 +1,7 @@
 -- `write_signed` is safe for any number: the least has a distance from 0 too.
 -- Assumes nothing.
 use borrow.Author.Needs.{needs}
-use Rattle.stack_cases.proofs.SignedLaws.{below, not-below}
+use Rattle.stack.proofs.DistanceLaws.{below, not-below}
 use Rattle.stack_cases.proofs.write_signed.Statement.{statement}
 use Rattle.stack_cases.proofs.write_signed.Tie as tie
 

@@ -43,11 +43,15 @@ returns c =
     let second = third .before .before .before .before in
     let first = second .before .before .before .before in
     let start = first .before .before .before in
-    line-put _ _ _ _ (omega (arith, sizes start))
-    (first .put-field .ensures)
-    (second .put-field2 .ensures)
-    (third .put-field3 .ensures)
-    (c .before .before .put-field4 .ensures)
+    let last = c .before .before in
+    let all = line-put _ _ _ _ (omega (arith, sizes start)) (first .put-field .ensures) (second .put-field2 .ensures) (third .put-field3 .ensures)
+    (last .put-field4 .ensures) in (
+      all .0,
+      (
+        all .1,
+        omega (arith, sizes start, first .put-field .ensures .1, second .put-field2 .ensures .1, third .put-field3 .ensures .1, last .put-field4 .ensures .1),
+      ),
+    )
 
 pub put-line-spec : {M : Type 1} → statement M
 put-line-spec =

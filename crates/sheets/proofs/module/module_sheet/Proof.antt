@@ -57,7 +57,7 @@ returns-3 : tie.Need-returns-3
 returns-3 c =
     let f = c .before in
     let e = f .before in
-    refused-sheet (accepted-words (e .before)) _ (e .if1 .left) _ (f .sheet-of .ensures) (c .if2 .taken)
+    refused-sheet (accepted-words (e .before)) _ (f .sheet-of .ensures) _ (e .if1 .left) (c .if2 .taken)
 
 -- src/module.rt:74:15
 slice-aggregate-fill-tray : tie.Need-slice-aggregate-fill-tray
@@ -101,7 +101,7 @@ returns-4 c =
     let y = answered (t .before) in
     let f = y .before in
     let e = f .before in
-    whole-sheet (accepted-words (e .before)) _ (e .if1 .left) _ (f .sheet-of .ensures) (y .if2 .left) _ (t .fill-tray .ensures)
+    whole-sheet (accepted-words (e .before)) _ (f .sheet-of .ensures) _ (e .if1 .left) (y .if2 .left) _ (t .fill-tray .ensures)
 
 pub module-sheet-spec : {M : Type 1} → statement M
 module-sheet-spec =

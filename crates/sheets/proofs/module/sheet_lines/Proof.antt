@@ -11,62 +11,91 @@ use Rattle.words.specs.Parts.{chunksIn}
 use Rattle.order.proofs.VisitLaws.{few-chunks}
 use Rattle.lines.specs.Line.{lineResult}
 use native.Mathlib.Omega.{arith}
+use Rattle.sheets.specs.Module.{inOrder}
 use Rattle.sheets.proofs.TurnLaws.{Lined, lined-begins, lined-ends, lined-more, lined-refuses, turn-head, turn-parts, turn-fits}
 use Rattle.sheets.proofs.module.sheet_lines.Statement.{statement}
 use Rattle.sheets.proofs.module.sheet_lines.Tie as tie
 
 abbrev Inv-loop : tie.InvT-loop
-Inv-loop words heads order n cycles₀ peaks₀ bytes₀ j₀ cycles peaks bytes j = Lined words order n j cycles peaks bytes
+Inv-loop words n places order cycles₀ peaks₀ bytes₀ j₀ cycles peaks bytes j = Lined words order n j cycles peaks bytes
 
 abbrev μ-loop : tie.MeasureT-loop
-μ-loop words heads order n cycles₀ peaks₀ bytes₀ j₀ cycles peaks bytes j = n - j
+μ-loop words n places order cycles₀ peaks₀ bytes₀ j₀ cycles peaks bytes j = n - j
 
 -- src/module.rt:104:5
 loop-holds : tie.Need-loop-holds Inv-loop μ-loop
 loop-holds c =
-    let s = c .before .before .before in
-    lined-begins (s .args .words .now) (s .args .order .now) (s .args .n) (few-chunks (s .pre .words)) _ refl refl
+    let s = c .before in
+    lined-begins (s .args .words .now) (s .args .t3) (s .args .n) (few-chunks (s .pre .words)) _ refl refl
 
 -- the function's entry, and the chunk whose turn it is
 abbrev entry : tie.In-loop Inv-loop μ-loop → tie.Start Inv-loop μ-loop
-entry c = c .before .before .before .before .before
+entry c = c .before .before .before
 
 few : (c : tie.In-loop Inv-loop μ-loop) → entry c .args .n ≤ 256
 few c = few-chunks (entry c .pre .words)
 
-below : (c : tie.In-loop Inv-loop μ-loop) → getD (entry c .args .order .now) (c .before .loop .j) 0 < entry c .args .n
+below : (c : tie.In-loop Inv-loop μ-loop) → getD (entry c .args .t3) (c .before .loop .j) 0 < entry c .args .n
 below c = entry c .pre .chunks (c .before .loop .j) (c .loop-test .taken)
 
--- src/module.rt:105:17
+-- the chunk's index is below 256
+under : (c : tie.In-loop Inv-loop μ-loop) → getD (entry c .args .t3) (c .before .loop .j) 0 < 256
+under c = omega (arith, few c, below c)
+
+-- src/module.rt:106:17
 mul-c : tie.Need-mul-c Inv-loop μ-loop
 mul-c c = omega (arith, few c)
 
--- src/module.rt:105:17
-shared-slice-read-c : tie.Need-shared-slice-read-c Inv-loop μ-loop
-shared-slice-read-c c = omega (arith, c .before .loop-test .taken, entry (c .before) .pre .order-room)
+-- src/module.rt:106:17
+array-read-c : tie.Need-array-read-c Inv-loop μ-loop
+array-read-c c = omega (arith, few c)
 
--- src/module.rt:105:17
+-- src/module.rt:106:17
 cast-c : tie.Need-cast-c Inv-loop μ-loop
-cast-c c = omega (arith, few (c .before), below (c .before))
+cast-c c = omega (arith, under c)
 
--- src/module.rt:106:33
-mul-parts-at : tie.Need-mul-parts-at Inv-loop μ-loop
-mul-parts-at c = omega (arith, few (c .before), below (c .before))
+-- src/module.rt:107:35
+mul-at : tie.Need-mul-at Inv-loop μ-loop
+mul-at c = omega (arith, under c)
 
--- src/module.rt:106:33
-shared-slice-read-parts-at : tie.Need-shared-slice-read-parts-at Inv-loop μ-loop
-shared-slice-read-parts-at c = omega (arith, entry (c .before .before) .pre .heads-room, below (c .before .before))
+-- src/module.rt:107:35
+element-copy-out-at : tie.Need-element-copy-out-at Inv-loop μ-loop
+element-copy-out-at c = omega (arith, under c)
 
--- src/module.rt:106:13
-parts-at-requires : tie.Need-parts-at-requires Inv-loop μ-loop
-parts-at-requires c κs =
-    let i = c .before .before in
+-- src/module.rt:107:52
+mul-ops : tie.Need-mul-ops Inv-loop μ-loop
+mul-ops c = omega (arith, under (c .before))
+
+-- src/module.rt:107:52
+element-copy-out-ops : tie.Need-element-copy-out-ops Inv-loop μ-loop
+element-copy-out-ops c = omega (arith, under (c .before))
+
+-- src/module.rt:107:67
+mul-extras : tie.Need-mul-extras Inv-loop μ-loop
+mul-extras c = omega (arith, under (c .before .before))
+
+-- src/module.rt:107:67
+element-copy-out-extras : tie.Need-element-copy-out-extras Inv-loop μ-loop
+element-copy-out-extras c = omega (arith, under (c .before .before))
+
+-- src/module.rt:107:85
+mul-parts-from : tie.Need-mul-parts-from Inv-loop μ-loop
+mul-parts-from c = omega (arith, under (c .before .before .before))
+
+-- src/module.rt:107:85
+element-copy-out-parts-from : tie.Need-element-copy-out-parts-from Inv-loop μ-loop
+element-copy-out-parts-from c = omega (arith, under (c .before .before .before))
+
+-- src/module.rt:107:13
+parts-from-requires : tie.Need-parts-from-requires Inv-loop μ-loop
+parts-from-requires c κs =
+    let i = c .before .before .before .before in
     turn-head (entry i .pre) (i .before .loop .j) (i .loop-test .taken)
 
 -- src/module.rt:107:43
 array-share-prefix-bytes : tie.Need-array-share-prefix-bytes Inv-loop μ-loop
 array-share-prefix-bytes c =
-    let i = c .before .before .before in
+    let i = c .before .before .before .before .before in
     omega (arith, few i, i .before .loop .inv .bytes-size)
 
 -- src/module.rt:107:43
@@ -76,20 +105,20 @@ slice-aggregate-chunk-line c = sym (length-take-le _ _ (array-share-prefix-bytes
 -- src/module.rt:107:13
 chunk-line-requires : tie.Need-chunk-line-requires Inv-loop μ-loop
 chunk-line-requires c κs =
-    let i = c .before .before .before .before in
-    turn-fits (entry i .pre) (i .before .loop .j) (i .loop-test .taken) _ (c .before .parts-at .ensures)
+    let i = c .before .before .before .before .before .before in
+    turn-fits (entry i .pre) (i .before .loop .j) (i .loop-test .taken) _ (c .before .parts-from .ensures)
 
 -- the turn in which the line was asked for, and the line of its chunk
 abbrev inside : tie.After-chunk-line Inv-loop μ-loop → tie.In-loop Inv-loop μ-loop
-inside c = c .before .before .before .before .before
+inside c = c .before .before .before .before .before .before .before
 
 told : (c : tie.After-chunk-line Inv-loop μ-loop)
     → lineResult (c .chunk-line .result)
-    ≡ chunkLine (chunkAt (chunksIn (entry (inside c) .args .words .now)) (getD (entry (inside c) .args .order .now) (inside c .before .loop .j) 0))
+    ≡ chunkLine (chunkAt (chunksIn (entry (inside c) .args .words .now)) (getD (entry (inside c) .args .t3) (inside c .before .loop .j) 0))
     (take (entry (inside c) .args .n) (inside c .before .loop .bytes))
 told c =
     let i = inside c in
-    c .chunk-line .ensures _ (turn-parts (entry i .pre) (i .before .loop .j) (i .loop-test .taken) _ (c .before .before .parts-at .ensures))
+    c .chunk-line .ensures _ (turn-parts (entry i .pre) (i .before .loop .j) (i .loop-test .taken) _ (c .before .before .parts-from .ensures))
 
 -- src/module.rt:109:28
 enum-known-answer : tie.Need-enum-known-answer Inv-loop μ-loop
@@ -109,8 +138,9 @@ returns c =
     let k = c .before .before in
     let l = k .before .before in
     let i = inside l in
-    c .refusal .ensures _
-    ∙ lined-refuses (i .before .loop .inv) (few i) (entry i .pre .order-room) (i .loop-test .taken) _ _ (sym (ap lineResult (k .answer2 .given .1)) ∙ told l)
+    c .refusal .ensures (entry i .args .n)
+    ∙ ap (inOrder (take (entry i .args .n) (entry i .args .t3)))
+    (lined-refuses (i .before .loop .inv) (few i) (entry i .pre .order-room) (i .loop-test .taken) _ _ (sym (ap lineResult (k .answer2 .given .1)) ∙ told l))
 
 -- src/module.rt:114:9
 mul-cycles : tie.Need-mul-cycles Inv-loop μ-loop
@@ -166,7 +196,9 @@ loop-again c =
 
 -- src/module.rt:96:1
 returns-2 : tie.Need-returns-2 Inv-loop μ-loop
-returns-2 c = lined-ends (c .before .loop .inv) (c .loop-test .left)
+returns-2 c =
+    let s = c .before .before .before in
+    ap (inOrder (take (s .args .n) (s .args .t3))) (lined-ends (c .before .loop .inv) (c .loop-test .left))
 
 pub sheet-lines-spec : {M : Type 1} → statement M
 sheet-lines-spec =
@@ -176,11 +208,17 @@ sheet-lines-spec =
     μ-loop
     loop-holds
     mul-c
-    shared-slice-read-c
+    array-read-c
     cast-c
-    mul-parts-at
-    shared-slice-read-parts-at
-    parts-at-requires
+    mul-at
+    element-copy-out-at
+    mul-ops
+    element-copy-out-ops
+    mul-extras
+    element-copy-out-extras
+    mul-parts-from
+    element-copy-out-parts-from
+    parts-from-requires
     array-share-prefix-bytes
     slice-aggregate-chunk-line
     chunk-line-requires

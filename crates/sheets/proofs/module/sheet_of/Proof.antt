@@ -23,7 +23,7 @@ slice-aggregate-call-order-2 c = search needs
 
 -- the places are found, and the search is called
 abbrev placed : tie.After-extras-at2 → tie.After-chunk-places
-placed c = c .before .before .before .before .before
+placed c = c .before .before .before .before
 
 abbrev words : (c : tie.After-chunk-places) → Readable (c .before .before .args .words .now) (c .before .before .args .n)
 words c = c .before .before .pre
@@ -48,29 +48,21 @@ refusal-requires c κs = search needs
 returns : tie.Need-returns
 returns c =
     let o = c .before .before .before in
-    c .refusal .ensures _ ∙ ring-sheet (words (placed (o .before))) _ (o .call-order .ensures) (c .before .if1 .taken)
-
--- src/module.rt:92:24
-slice-aggregate-sheet-lines : tie.Need-slice-aggregate-sheet-lines
-slice-aggregate-sheet-lines c = search needs
-
--- src/module.rt:92:32
-slice-aggregate-sheet-lines-2 : tie.Need-slice-aggregate-sheet-lines-2
-slice-aggregate-sheet-lines-2 c = search needs
+    let p = placed (o .before) in
+    c .refusal .ensures (p .before .before .args .n) ∙ ring-sheet (words p) _ (o .call-order .ensures) (c .before .if1 .taken)
 
 -- src/module.rt:92:5
 sheet-lines-requires : tie.Need-sheet-lines-requires
 sheet-lines-requires c κs =
-    let e = c .before .before .before in
+    let e = c .before in
     let o = e .before .before in
     let p = placed (o .before) in
-    ordering (words p) _ (o .call-order .ensures) (e .if1 .left) _ (omega (arith, few-chunks (words p), slice-aggregate-sheet-lines (c .before)))
-    (λ k lt. p .chunk-places .ensures k lt .head)
+    ordering (words p) _ (o .call-order .ensures) (e .if1 .left) _ (p .chunk-places .ensures)
 
 -- src/module.rt:79:1
 returns-2 : tie.Need-returns-2
 returns-2 c =
-    let e = c .before .before .before .before in
+    let e = c .before .before in
     let o = e .before .before in
     c .sheet-lines .ensures ∙ lines-sheet (words (placed (o .before))) _ (o .call-order .ensures) (e .if1 .left)
 
@@ -84,7 +76,5 @@ sheet-of-spec =
     call-order-requires
     refusal-requires
     returns
-    slice-aggregate-sheet-lines
-    slice-aggregate-sheet-lines-2
     sheet-lines-requires
     returns-2)

@@ -1,215 +1,208 @@
--- `is_row` says whether `parse` finds a tree. The loop's invariant: with the blocks open whose ends the array holds, the range is a row exactly where
--- what is open can still be one. Assumes nothing.
+-- `row_within` says whether `parse` finds a tree. The loop's invariant: with the blocks open whose ends the array holds, the range is a row exactly
+-- where what is open can still be one. Assumes nothing.
 use mathlib.Core.Path.{_≡_, refl, sym, _∙_}
 use mathlib.Core.Bool.{true, false}
 use mathlib.Core.Logic.{⊎-elim}
 use Prim.Native.Nat.{_+_, _-_, _<_, _≤_}
 use native.Mathlib.Omega.{arith}
 use borrow.Author.Needs.{needs}
-use lib.ListN.{getD}
+use lib.ListN.{length, getD}
 use Rattle.rules.specs.Ops.{opAt}
 use Rattle.rows.proofs.DecisionLaws.{op-at}
 use Rattle.rows.proofs.OpenBlocks.{stack, boundOf, start, row-there, no-row}
 use Rattle.rows.proofs.BlockArray.{State, bound-none, bound-some, carried, sizes, all-closed, plain-next, crossed-next, open-room, open-next}
 use Rattle.rows.proofs.BlockArray.{AtEnd, some-block, some-loop, else-next, close-next, close-loop-next}
-use Rattle.rows.proofs.check.is_row.Statement.{statement}
-use Rattle.rows.proofs.check.is_row.Tie as tie
+use Rattle.rows.proofs.check.row_within.Statement.{statement}
+use Rattle.rows.proofs.check.row_within.Tie as tie
 
 abbrev Inv-loop : tie.InvT-loop
 Inv-loop ops from to ends₀ depth₀ loops₀ i₀ ends depth loops i =
-    State (opAt ops) from to ends depth loops i
+    State (opAt ops) from to (length ends₀) ends depth loops i
 
 abbrev μ-loop : tie.MeasureT-loop
 μ-loop ops from to ends₀ depth₀ loops₀ i₀ ends depth loops i = to - i
 
--- src/check.rt:93:5
 loop-holds : tie.Need-loop-holds Inv-loop μ-loop
 loop-holds c =
-    let a = c .before .args in
-    record { size = refl; stage = start (opAt (a .ops .now)) (a .from) (a .to) (c .before .pre .0) }
+    let s = c .before .before in
+    let a = s .args in
+    record { size = refl; enough = s .pre .3; stage = start (opAt (a .ops .now)) (a .from) (a .to) (s .pre .0) }
 
--- src/check.rt:97:18
 sub-bound : tie.Need-sub-bound Inv-loop μ-loop
 sub-bound c = omega arith
 
--- src/check.rt:97:13
 mul-bound : tie.Need-mul-bound Inv-loop μ-loop
 mul-bound c = omega (arith, sizes (c .before .before .loop .inv))
 
--- src/check.rt:97:13
-array-read-bound : tie.Need-array-read-bound Inv-loop μ-loop
-array-read-bound c = omega (arith, sizes (c .before .before .loop .inv))
+slice-read-bound : tie.Need-slice-read-bound Inv-loop μ-loop
+slice-read-bound c = omega (arith, sizes (c .before .before .before .loop .inv))
 
--- src/check.rt:97:13
 cast-bound : tie.Need-cast-bound Inv-loop μ-loop
 cast-bound c =
-    let l = c .before .before .loop in
-    omega (arith, sizes (l .inv), bound-some (c .before .before .before .before .args .to) (l .ends) (l .depth) (c .if1 .left))
+    let l = c .before .before .before .loop in
+    omega (arith, sizes (l .inv), bound-some (c .before .before .before .before .before .before .args .to) (l .ends) (l .depth) (c .before .if1 .left))
 
 -- the bound is the end of the innermost block
 bound-is : (c : tie.Joined1 Inv-loop μ-loop) → let l = c .before .before .loop in
-    c .if1 .bound ≡ boundOf (c .before .before .before .before .args .to) (stack (l .ends) (l .depth))
+    c .if1 .bound ≡ boundOf (c .before .before .before .before .before .args .to) (stack (l .ends) (l .depth))
 bound-is c =
     let l = c .before .before .loop in
-    let to = c .before .before .before .before .args .to in
-    ⊎-elim (λ w. w .1 ∙ bound-none to (l .ends) (l .depth) (w .0 .taken)) (λ w. w .1 ∙ bound-some to (l .ends) (l .depth) (w .0 .left)) (c .if1 .came)
+    let to = c .before .before .before .before .before .args .to in
+    ⊎-elim (λ w. w .1 ∙ bound-none to (l .ends) (l .depth) (w .0 .taken)) (λ w. w .2 ∙ bound-some to (l .ends) (l .depth) (w .0 .left)) (c .if1 .came)
 
--- src/check.rt:100:17
 opens-at-requires : tie.Need-opens-at-requires Inv-loop μ-loop
 opens-at-requires c κs = omega (arith, sizes (c .before .before .before .loop .inv), bound-is (c .before))
 
 enum-told : tie.Need-enum-told Inv-loop μ-loop
 enum-told c = search needs
 
--- src/check.rt:103:32
 enum-known-opening : tie.Need-enum-known-opening Inv-loop μ-loop
 enum-known-opening c = search needs
 
 -- there is room for the end of a block
-block-fits : (c : tie.After-opening Inv-loop μ-loop) → let l = c .before .before .before .before .before .before in let a = l .before .before .args in
+block-fits : (c : tie.After-opening Inv-loop μ-loop) → let l = c .before .before .before .before .before .before in let a = l .before .before .before .args in
     (c .opening .given .0 .0 < a .to) × (a .from + (l .loop .depth + l .loop .depth) + 2 ≤ a .to)
 block-fits c =
     let o = c .before .before in
     let j = o .before .before in
     open-room (j .before .before .loop .inv) (bound-is j) (o .before .if2 .taken) false _ (sym (c .opening .given .1) ∙ o .opens-at .ensures)
 
-loop-fits : (c : tie.After-opening2 Inv-loop μ-loop) → let l = c .before .before .before .before .before .before in let a = l .before .before .args in
+loop-fits : (c : tie.After-opening2 Inv-loop μ-loop) → let l = c .before .before .before .before .before .before in let a = l .before .before .before .args in
     (c .opening2 .given .0 .0 < a .to) × (a .from + (l .loop .depth + l .loop .depth) + 2 ≤ a .to)
 loop-fits c =
     let o = c .before .before in
     let j = o .before .before in
     open-room (j .before .before .loop .inv) (bound-is j) (o .before .if2 .taken) true _ (sym (c .opening2 .given .1) ∙ o .opens-at .ensures)
 
--- src/check.rt:104:35
 cast-ends : tie.Need-cast-ends Inv-loop μ-loop
 cast-ends c = omega (arith, block-fits (c .before))
 
--- src/check.rt:104:21
 mul-ends : tie.Need-mul-ends Inv-loop μ-loop
 mul-ends c = omega (arith, block-fits (c .before))
 
--- src/check.rt:104:21
-array-write-ends : tie.Need-array-write-ends Inv-loop μ-loop
-array-write-ends c = omega (arith, block-fits (c .before))
+slice-write-ends : tie.Need-slice-write-ends Inv-loop μ-loop
+slice-write-ends c = omega (arith, block-fits (c .before))
 
--- src/check.rt:105:21
 add-depth : tie.Need-add-depth Inv-loop μ-loop
 add-depth c = omega (arith, block-fits (c .before))
 
--- src/check.rt:107:31
 enum-known-opening-2 : tie.Need-enum-known-opening-2 Inv-loop μ-loop
 enum-known-opening-2 c = search needs
 
--- src/check.rt:108:35
 cast-ends-2 : tie.Need-cast-ends-2 Inv-loop μ-loop
 cast-ends-2 c = omega (arith, loop-fits (c .before))
 
--- src/check.rt:108:21
 mul-ends-2 : tie.Need-mul-ends-2 Inv-loop μ-loop
 mul-ends-2 c = omega (arith, loop-fits (c .before))
 
--- src/check.rt:108:21
-array-write-ends-2 : tie.Need-array-write-ends-2 Inv-loop μ-loop
-array-write-ends-2 c = omega (arith, loop-fits (c .before))
+slice-write-ends-2 : tie.Need-slice-write-ends-2 Inv-loop μ-loop
+slice-write-ends-2 c = omega (arith, loop-fits (c .before))
 
--- src/check.rt:109:21
 add-depth-2 : tie.Need-add-depth-2 Inv-loop μ-loop
 add-depth-2 c = omega (arith, loop-fits (c .before))
 
--- src/check.rt:110:21
 add-loops : tie.Need-add-loops Inv-loop μ-loop
 add-loops c = omega (arith, loop-fits (c .before), sizes (c .before .before .before .before .before .before .before .loop .inv))
 
--- src/check.rt:113:21
 enum-told-2 : tie.Need-enum-told-2 Inv-loop μ-loop
 enum-told-2 c = search needs
 
--- src/check.rt:113:21
+same-length : tie.Need-same-length Inv-loop μ-loop
+same-length c = c .before .before .before .before .before .before .loop .inv .size
+
 returns : tie.Need-returns Inv-loop μ-loop
 returns c =
     let o = c .before .before in
     let j = o .before .before in
-    let s = j .before .before .before .before in
+    let s = j .before .before .before .before .before in
     no-row (opAt (s .args .ops .now)) (s .args .from) (s .args .to) (s .pre .0)
     (crossed-next (j .before .before .loop .inv) (bound-is j) (o .before .if2 .taken) (sym (c .enum-told2 .given .1) ∙ o .opens-at .ensures))
 
--- src/check.rt:117:21
-mul-w : tie.Need-mul-w Inv-loop μ-loop
-mul-w c = omega arith
+mul-if3 : tie.Need-mul-if3 Inv-loop μ-loop
+mul-if3 c = omega arith
 
--- src/check.rt:117:21
-shared-slice-read-w : tie.Need-shared-slice-read-w Inv-loop μ-loop
-shared-slice-read-w c = omega arith
+shared-slice-read-if3 : tie.Need-shared-slice-read-if3 Inv-loop μ-loop
+shared-slice-read-if3 c = omega arith
+
+mul-ends-3 : tie.Need-mul-ends-3 Inv-loop μ-loop
+mul-ends-3 c = omega arith
+
+shared-slice-read-ends : tie.Need-shared-slice-read-ends Inv-loop μ-loop
+shared-slice-read-ends c = omega arith
 
 -- where a part ends
-at-end : (c : tie.Joined1 Inv-loop μ-loop) → let l = c .before .before in let a = l .before .before .args in
+at-end : (c : tie.Joined1 Inv-loop μ-loop) → let l = c .before .before in let a = l .before .before .before .args in
     c .if1 .bound ≤ l .loop .i
-    → AtEnd (opAt (a .ops .now)) (a .from) (a .to) (l .loop .ends) (l .loop .depth) (l .loop .loops) (l .loop .i) (getD (a .ops .now) (l .loop .i) 0)
+    → AtEnd (opAt (a .ops .now)) (a .from) (a .to) (length (a .ends .now)) (l .loop .ends) (l .loop .depth) (l .loop .loops) (l .loop .i)
+    (getD (a .ops .now) (l .loop .i) 0)
 at-end c h =
     let l = c .before .before in
     record {
       state = l .loop .inv;
       past = omega (arith, bound-is c);
       left = c .before .loop-test .taken;
-      here = op-at (l .before .before .args .ops .now) (l .loop .i) (omega arith);
+      here = op-at (l .before .before .before .args .ops .now) (l .loop .i) (omega arith);
     }
 
--- src/check.rt:119:22
 sub-ends : tie.Need-sub-ends Inv-loop μ-loop
-sub-ends c = some-block _ (at-end (c .before .before .before) (c .before .before .if2 .left))
+sub-ends c =
+    let e = c .before .before .before in
+    some-block _ (at-end (e .before) (e .if2 .left))
 
--- src/check.rt:119:17
-mul-ends-3 : tie.Need-mul-ends-3 Inv-loop μ-loop
-mul-ends-3 c = omega (arith, sizes (c .before .before .before .before .before .loop .inv))
+mul-ends-4 : tie.Need-mul-ends-4 Inv-loop μ-loop
+mul-ends-4 c = omega (arith, sizes (c .before .before .before .before .before .before .loop .inv))
 
--- src/check.rt:119:17
-array-write-ends-3 : tie.Need-array-write-ends-3 Inv-loop μ-loop
-array-write-ends-3 c = omega (arith, sizes (c .before .before .before .before .before .loop .inv))
+slice-write-ends-3 : tie.Need-slice-write-ends-3 Inv-loop μ-loop
+slice-write-ends-3 c = omega (arith, sizes (c .before .before .before .before .before .before .loop .inv))
 
--- src/check.rt:121:17
 sub-depth : tie.Need-sub-depth Inv-loop μ-loop
-sub-depth c = some-block _ (at-end (c .before .before .before) (c .before .before .if2 .left))
+sub-depth c =
+    let e = c .before .before in
+    some-block _ (at-end (e .before) (e .if2 .left))
 
--- src/check.rt:123:21
+mul-if4 : tie.Need-mul-if4 Inv-loop μ-loop
+mul-if4 c = omega arith
+
+shared-slice-read-if4 : tie.Need-shared-slice-read-if4 Inv-loop μ-loop
+shared-slice-read-if4 c = omega arith
+
 sub-loops : tie.Need-sub-loops Inv-loop μ-loop
 sub-loops c =
-    let e = c .before .before .before in
+    let e = c .before .before .before .before in
     some-loop _ (at-end (e .before) (e .if2 .left)) (c .if4 .taken)
 
--- src/check.rt:127:9
 add-i : tie.Need-add-i Inv-loop μ-loop
 add-i c = omega arith
 
--- src/check.rt:93:5
 loop-less : tie.Need-loop-less Inv-loop μ-loop
 loop-less c = omega arith
 
--- src/check.rt:93:5
 loop-again : tie.Need-loop-again Inv-loop μ-loop
 loop-again c =
     let j = c .before in
     let s = j .before .before .loop .inv in
     let b = bound-is j in
-    let h : j .before .before .before .before .args .to ≤ 16384 = omega arith in
     ⊎-elim
     (λ w. carried (w .4) (w .5) (w .6) (plain-next s b (w .0 .taken) (sym (w .3 .given .1) ∙ w .1 .ensures)))
     (⊎-elim
-    (λ w. carried (w .5) (w .6) (w .7) (open-next s b (w .0 .taken) false _ h (sym (w .3 .given .1) ∙ w .1 .ensures)))
+    (λ w. carried (w .5) (w .6) (w .7) (open-next s b (w .0 .taken) false _ (sym (w .3 .given .1) ∙ w .1 .ensures)))
     (⊎-elim
-    (λ w. carried (w .5) (w .6) (w .7) (open-next s b (w .0 .taken) true _ h (sym (w .3 .given .1) ∙ w .1 .ensures)))
+    (λ w. carried (w .5) (w .6) (w .7) (open-next s b (w .0 .taken) true _ (sym (w .3 .given .1) ∙ w .1 .ensures)))
     (⊎-elim
-    (λ w. carried (w .3) (w .4) (w .5) (else-next _ (at-end j (w .0 .left)) h (w .2 .taken)))
+    (λ w. carried (w .4) (w .5) (w .6) (else-next _ (at-end j (w .0 .left)) (w .2 .taken)))
     (⊎-elim
-    (λ w. carried (w .4) (w .5) (w .6) (close-loop-next _ (at-end j (w .0 .left)) (w .3 .taken)))
-    (λ w. carried (w .4) (w .5) (w .6) (close-next _ (at-end j (w .0 .left)) (w .2 .left) (w .3 .left)))))))
+    (λ w. carried (w .5) (w .6) (w .7) (close-loop-next _ (at-end j (w .0 .left)) (w .4 .taken)))
+    (λ w. carried (w .5) (w .6) (w .7) (close-next _ (at-end j (w .0 .left)) (w .2 .left) (w .4 .left)))))))
     (c .if2 .came)
 
--- src/check.rt:85:1
+same-length-2 : tie.Need-same-length-2 Inv-loop μ-loop
+same-length-2 c = c .before .loop .inv .size
+
 returns-2 : tie.Need-returns-2 Inv-loop μ-loop
 returns-2 c = row-there _ _ _ (all-closed (c .before .loop .inv) (c .loop-test .left))
 
-pub is-row-spec : {M : Type 1} → statement M
-is-row-spec =
+pub row-within-spec : {M : Type 1} → statement M
+row-within-spec =
     tie.close
     (tie.spec
     Inv-loop
@@ -217,31 +210,37 @@ is-row-spec =
     loop-holds
     sub-bound
     mul-bound
-    array-read-bound
+    slice-read-bound
     cast-bound
     opens-at-requires
     enum-told
     enum-known-opening
     cast-ends
     mul-ends
-    array-write-ends
+    slice-write-ends
     add-depth
     enum-known-opening-2
     cast-ends-2
     mul-ends-2
-    array-write-ends-2
+    slice-write-ends-2
     add-depth-2
     add-loops
     enum-told-2
+    same-length
     returns
-    mul-w
-    shared-slice-read-w
-    sub-ends
+    mul-if3
+    shared-slice-read-if3
     mul-ends-3
-    array-write-ends-3
+    shared-slice-read-ends
+    sub-ends
+    mul-ends-4
+    slice-write-ends-3
     sub-depth
+    mul-if4
+    shared-slice-read-if4
     sub-loops
     add-i
     loop-less
     loop-again
+    same-length-2
     returns-2)

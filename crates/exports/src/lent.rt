@@ -1,0 +1,89 @@
+// The proved functions that leave numbers in a lent buffer. A refusal leaves the buffer as it was.
+use crate::pack_refusal;
+use order::entry::OrderAnswer;
+use order::entry::topological_call_order;
+use sheets::module::SheetAnswer;
+use sheets::module::module_sheet;
+use stack::entry::StackAnswer;
+use stack::entry::stack_walk;
+use stack::height::Delta;
+ghost use mathlib.Core.Path.{_≡_};
+ghost use mathlib.Core.List.{[], _∷_};
+ghost use lib.IntN.{pos};
+ghost use lib.ListN.{length};
+ghost use Rattle.rules.specs.Sheet.{stackOutcome, orderOutcome, orderTray, sheetOutcome, sheetTray};
+ghost use Rattle.order.specs.Entry.{lengthOf};
+ghost use Rattle.sheets.specs.Module.{countOf};
+ghost use Rattle.exports.specs.Packed.{packedCount, packedStack, stackNumbers};
+
+// The three numbers of a stack walk.
+fn store(out: &mut [i64], peak: u32, delta: i64, bytes: u32)
+    requires { ⌜ length (now out) ≡ 3 ⌝ }
+    ensures { λ _. ⌜ now (out .exit) ≡ pos peak ∷ delta ∷ pos bytes ∷ [] ⌝ }
+{
+    out[0] = peak as i64;
+    out[1] = delta;
+    out[2] = bytes as i64;
+}
+
+// The stack walk of chunk c over the callees' bytes: peak, delta (0 where the row ends) and bytes into out; 1 where the row ends, else 0.
+// In C: uint64_t pm_stack(const uint32_t *words, size_t length, uint32_t c, const uint32_t *callees, size_t count, int64_t out[3]).
+#[no_mangle]
+pub extern "C" fn pm_stack(words: &[u32], c: u32, callees: &[u32], out: &mut [i64; 3]) -> u64
+    ensures answer { λ r. ⌜ r ≡ packedStack (stackOutcome (now (words .entry)) c (now (callees .entry))) ⌝ }
+    ensures written { λ r. ⌜ now (out .exit) ≡ stackNumbers (stackOutcome (now (words .entry)) c (now (callees .entry))) (now (out .entry)) ⌝ }
+{
+    let answer = stack_walk(words, c as usize, callees);
+    match answer {
+        StackAnswer::Is { peak, delta, bytes } => match delta {
+            Delta::Offset(x) => {
+                store(out, peak.0, x, bytes.0);
+                0
+            }
+            Delta::Ends => {
+                store(out, peak.0, 0, bytes.0);
+                1
+            }
+        },
+        StackAnswer::Refused {
+            number,
+            chunk,
+            place,
+        } => pack_refusal(number, chunk, place),
+    }
+}
+
+// The call order into the tray: how many chunks stand there. In C: uint64_t pm_order(const uint32_t *words, size_t length, uint32_t *tray, size_t room).
+#[no_mangle]
+pub extern "C" fn pm_order(words: &[u32], tray: &mut [u32]) -> u64
+    ensures answer { λ r. ⌜ r ≡ packedCount (lengthOf (orderOutcome (now (words .entry)) (length (now (tray .entry))))) ⌝ }
+    ensures written { λ r. ⌜ now (tray .exit) ≡ orderTray (orderOutcome (now (words .entry)) (length (now (tray .entry)))) (now (tray .entry)) ⌝ }
+{
+    let answer = topological_call_order(words, tray);
+    match answer {
+        OrderAnswer::Listed(n) => n as u64,
+        OrderAnswer::Refused {
+            number,
+            chunk,
+            place,
+        } => pack_refusal(number, chunk, place),
+    }
+}
+
+// The module sheet into the tray: how many chunks have their lines there. In C: uint64_t pm_sheet(const uint32_t *words, size_t length, uint32_t *tray,
+// size_t room).
+#[no_mangle]
+pub extern "C" fn pm_sheet(words: &[u32], tray: &mut [u32]) -> u64
+    ensures answer { λ r. ⌜ r ≡ packedCount (countOf (sheetOutcome (now (words .entry)) (length (now (tray .entry))))) ⌝ }
+    ensures written { λ r. ⌜ now (tray .exit) ≡ sheetTray (sheetOutcome (now (words .entry)) (length (now (tray .entry)))) (now (tray .entry)) ⌝ }
+{
+    let answer = module_sheet(words, tray);
+    match answer {
+        SheetAnswer::Lines(n) => n as u64,
+        SheetAnswer::Refused {
+            number,
+            chunk,
+            place,
+        } => pack_refusal(number, chunk, place),
+    }
+}

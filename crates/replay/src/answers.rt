@@ -1,0 +1,193 @@
+// The answer of each question, as a line.
+use count::entry::CountAnswer;
+use count::entry::loop_count;
+use cycles::entry::CyclesAnswer;
+use cycles::entry::cycle_walk;
+use libc::STDOUT_FILENO;
+use order::entry::OrderAnswer;
+use order::entry::topological_call_order;
+use sheets::module::SheetAnswer;
+use sheets::module::module_sheet;
+use stack::entry::StackAnswer;
+use stack::entry::stack_walk;
+use stack::height::Delta;
+use words::reader::Reading;
+use words::reader::read_module;
+ghost use Prim.Native.Nat.{_≤_};
+ghost use lib.ListN.{length};
+
+fn write(text: &[u8]) {
+    io::write_all(STDOUT_FILENO, text);
+}
+
+// A number behind what stands there already.
+fn write_number(n: u64) {
+    io::print_decimal(STDOUT_FILENO, n);
+}
+
+fn write_signed(n: i64) {
+    if n < 0 {
+        write(b"-");
+        let less = -(n + 1);
+        write_number(less as u64 + 1);
+        return;
+    }
+    write_number(n as u64);
+}
+
+// The line of a refusal.
+fn write_refused(number: u32, chunk: usize, place: usize) {
+    write(b"refused ");
+    write_number(number as u64);
+    write(b" ");
+    write_number(chunk as u64);
+    write(b" ");
+    write_number(place as u64);
+}
+
+fn wide(w: u32) -> u64 {
+    w as u64
+}
+
+// The first n numbers of a tray, or all if it has fewer.
+fn write_numbers(tray: &[u32; 1024], n: usize) {
+    let mut i = 0;
+    while i < 1024 {
+        if n <= i {
+            return;
+        }
+        if 0 < i {
+            write(b" ");
+        }
+        write_number(wide(tray[i]));
+        i += 1;
+    }
+}
+
+fn show_read(words: &[u32]) {
+    let reading = read_module(words);
+    match reading {
+        Reading::Accepted(n) => write_number(n as u64),
+        Reading::Refused { number, place } => write_refused(number, 0, place),
+    }
+}
+
+fn show_count(words: &[u32], c: usize, p: usize) {
+    let answer = loop_count(words, c, p);
+    match answer {
+        CountAnswer::Is(n) => write_number(n as u64),
+        CountAnswer::Refused {
+            number,
+            chunk,
+            place,
+        } => write_refused(number, chunk, place),
+    }
+}
+
+// The cycles, and 1 if the row ends, else 0.
+fn show_cycles(words: &[u32], c: usize) {
+    let answer = cycle_walk(words, c);
+    match answer {
+        CyclesAnswer::Are { cycles, ends } => {
+            write_number(cycles as u64);
+            if ends {
+                write(b" 1");
+            } else {
+                write(b" 0");
+            }
+        }
+        CyclesAnswer::Refused {
+            number,
+            chunk,
+            place,
+        } => write_refused(number, chunk, place),
+    }
+}
+
+fn write_delta(delta: Delta) {
+    match delta {
+        Delta::Offset(n) => write_signed(n),
+        Delta::Ends => write(b"ends"),
+    }
+}
+
+// Peak, delta or "ends", and bytes.
+fn show_stack(words: &[u32], c: usize, callees: &[u32]) {
+    let answer = stack_walk(words, c, callees);
+    match answer {
+        StackAnswer::Is { peak, delta, bytes } => {
+            write_number(peak.0 as u64);
+            write(b" ");
+            write_delta(delta);
+            write(b" ");
+            write_number(bytes.0 as u64);
+        }
+        StackAnswer::Refused {
+            number,
+            chunk,
+            place,
+        } => write_refused(number, chunk, place),
+    }
+}
+
+// The call order in the first words of a tray.
+fn order_front(words: &[u32], tray: &mut [u32], room: usize) -> OrderAnswer
+    requires { ⌜ room ≤ length (now tray) ⌝ }
+{
+    topological_call_order(words, &mut tray[..room])
+}
+
+// The chunks in call order.
+fn show_order(words: &[u32], room: usize)
+    requires { ⌜ room ≤ 1024 ⌝ }
+{
+    let mut tray = [0u32; 1024];
+    let answer = order_front(words, &mut tray, room);
+    match answer {
+        OrderAnswer::Listed(n) => write_numbers(&tray, n as usize),
+        OrderAnswer::Refused {
+            number,
+            chunk,
+            place,
+        } => write_refused(number, chunk, place),
+    }
+}
+
+// The module sheet in the first words of a tray.
+fn sheet_front(words: &[u32], tray: &mut [u32], room: usize) -> SheetAnswer
+    requires { ⌜ room ≤ length (now tray) ⌝ }
+{
+    module_sheet(words, &mut tray[..room])
+}
+
+// Cycles, peak and bytes of each chunk, by chunk index.
+fn show_sheet(words: &[u32], room: usize)
+    requires { ⌜ room ≤ 1024 ⌝ }
+{
+    let mut tray = [0u32; 1024];
+    let answer = sheet_front(words, &mut tray, room);
+    match answer {
+        SheetAnswer::Lines(n) => write_numbers(&tray, 3 * n as usize),
+        SheetAnswer::Refused {
+            number,
+            chunk,
+            place,
+        } => write_refused(number, chunk, place),
+    }
+}
+
+// The questions by their numbers. A number that none has is answered by an empty line.
+pub fn answer(question: u32, words: &[u32], c: usize, p: usize, callees: &[u32], room: usize)
+    requires { ⌜ room ≤ 1024 ⌝ }
+{
+    match question {
+        1 => show_read(words),
+        2 => show_count(words, c, p),
+        3 => show_cycles(words, c),
+        4 => show_stack(words, c, callees),
+        5 => show_order(words, room),
+        6 => show_sheet(words, room),
+        _ => {}
+    }
+    write(b"\n");
+}
