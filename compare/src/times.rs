@@ -126,14 +126,19 @@ fn loops(words: usize) -> Vec<Chunk> {
     vec![held]
 }
 
-/// Chunks of 62 words that call each other in a chain, each the next.
-fn chain(words: usize) -> Vec<Chunk> {
-    let calling = |c| {
-        let mut ops: Vec<_> = (0..61).map(|_| op(32, 0, 0)).collect();
-        ops[30] = op(30, 0, c + 1);
+/// Chunks of so many ops that call each other in a chain, each the next.
+fn calling(chunks: usize, length: usize) -> Vec<Chunk> {
+    let one = |c| {
+        let mut ops: Vec<_> = (0..length).map(|_| op(32, 0, 0)).collect();
+        ops[length / 2] = op(30, 0, c + 1);
         chunk(0, 1, &[], ops)
     };
-    (0..(words / 62).min(256)).map(calling).collect()
+    (0..chunks.min(256)).map(one).collect()
+}
+
+/// A chain of chunks of 62 words.
+fn chain(words: usize) -> Vec<Chunk> {
+    calling(words / 62, 61)
 }
 
 fn heading(of: &str) {
@@ -159,6 +164,9 @@ pub fn print() {
     );
     sheet("counted loops", &loops(16_000));
     sheet("typical program", &typical::program());
+    sheet("256 small chunks in a chain", &calling(256, 2));
+    sheet("chunk L", &[every::worked(&[0, 3, 1])]);
+    sheet("one chunk of one op", &calling(1, 1));
     let growing: [(&str, fn(usize) -> Vec<Chunk>); 3] =
         [("plain", plain), ("loops", loops), ("chain", chain)];
     for (name, class) in growing {
