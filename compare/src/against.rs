@@ -155,7 +155,8 @@ fn lists(counts: &mut Counts) {
     every::flat(6, &few[1..], |i| i + 1, 6, &mut see);
 }
 
-/// Every small change of a chunk with a counted loop: one op by every kind, or two by those that its header and tail are made of.
+/// Every small change of a chunk with a counted loop: one op by every kind, or two by those that its header and tail are made of; and every stretch of its
+/// ops.
 fn changes(counts: &mut Counts) {
     let mut one: Vec<Op> = (0..66).map(|kind| op(kind, 0, 0)).collect();
     one.extend((0..3).flat_map(|kind| (1..4).map(move |a| op(kind, 0, a))));
@@ -180,6 +181,7 @@ fn changes(counts: &mut Counts) {
         every::worked(&[1, 0, 1]),
         every::worked_array(3),
     ] {
+        every::stretches(&held, &mut see);
         every::changes(&held, &one, false, &mut see);
         every::changes(&held, &two, true, &mut see);
     }

@@ -190,6 +190,30 @@ pub fn worked_array(length: usize) -> Chunk {
     held
 }
 
+/// A chunk with other ops.
+fn with_ops(from: &Chunk, ops: Vec<Op>) -> Chunk {
+    let constants = from.constants.iter().map(|held| match held {
+        Constant::Int(value) => Constant::Int(*value),
+        Constant::Other => Constant::Other,
+    });
+    Chunk {
+        constants: constants.collect(),
+        ops,
+        extras: from.extras.clone(),
+        ..*from
+    }
+}
+
+/// Each stretch of a chunk's ops, so that a header or a tail is cut off by either end.
+pub fn stretches(from: &Chunk, see: &mut impl FnMut(Case)) {
+    for end in 0..=from.ops.len() {
+        for start in 0..=end {
+            let ops = from.ops[start..end].iter().map(copied).collect();
+            see(Case::of(&[with_ops(from, ops)]));
+        }
+    }
+}
+
 /// A chunk, and each chunk that has one op replaced by each of `others`, taken out, or put in; with `pairs` each two ops replaced too.
 pub fn changes(from: &Chunk, others: &[Op], pairs: bool, see: &mut impl FnMut(Case)) {
     let make = |choices: &mut Choices| {
@@ -207,16 +231,7 @@ pub fn changes(from: &Chunk, others: &[Op], pairs: bool, see: &mut impl FnMut(Ca
                 ops[j] = other(choices);
             }
         }
-        let constants = from.constants.iter().map(|held| match held {
-            Constant::Int(value) => Constant::Int(*value),
-            Constant::Other => Constant::Other,
-        });
-        Chunk {
-            constants: constants.collect(),
-            ops,
-            extras: from.extras.clone(),
-            ..*from
-        }
+        with_ops(from, ops)
     };
     see(Case::of(std::slice::from_ref(from)));
     each(make, |chunk| see(Case::of(&[chunk])));

@@ -1,10 +1,11 @@
-//! Finds how much machine stack the proved cycle walk takes on the chunks that go deepest. A trial is a child process that walks one chunk in a thread of so
-//! much stack; where the stack is too small the child ends by a signal.
+//! Finds how much machine stack the proved cycle walk and the proved module sheet take on the modules that go deepest. A trial is a child process that makes
+//! one call in a thread of so much stack; where the stack is too small the child ends by a signal.
 use std::process::{exit, Command, Stdio};
 use std::thread;
 
 extern "C" {
     fn pm_cycles(words: *const u32, length: usize, chunk: u32) -> u64;
+    fn pm_sheet(words: *const u32, length: usize, tray: *mut u32, room: usize) -> u64;
 }
 
 /// Refusal 7 at place 0, packed.
@@ -17,13 +18,47 @@ const GET_LOCAL: u32 = 1 << 24;
 const SET_LOCAL: u32 = 2 << 24;
 const IF: u32 = 21 << 24;
 const END_IF: u32 = 23 << 24;
+const CALL: u32 = 30 << 24;
 const RETURN: u32 = 31 << 24;
 
-/// A chunk, what its walk must answer, and what it shows.
+/// A module, whether its sheet is asked for or the cycles of chunk 0, what must be answered, and what it shows.
 struct Case {
     name: &'static str,
-    ops: Vec<u32>,
+    words: Vec<u32>,
+    sheet: bool,
     answer: u64,
+}
+
+/// The cycles of one chunk.
+fn cycles(name: &'static str, ops: Vec<u32>, answer: u64) -> Case {
+    let words = module(&ops);
+    let sheet = false;
+    Case {
+        name,
+        words,
+        sheet,
+        answer,
+    }
+}
+
+/// The sheet of a module of so many chunks, which it answers.
+fn sheet(name: &'static str, words: Vec<u32>, chunks: u64) -> Case {
+    let (sheet, answer) = (true, chunks);
+    Case {
+        name,
+        words,
+        sheet,
+        answer,
+    }
+}
+
+/// 256 chunks, each of which calls the next, the last one none.
+fn chain() -> Vec<u32> {
+    let mut words = vec![199 << 24 | 256];
+    for c in 1..=256 {
+        words.extend([200 << 24, CALL + c]);
+    }
+    words
 }
 
 /// So many Ifs in one another around these ops; the first If is to stand at this position.
@@ -69,60 +104,56 @@ fn copies_answer(number: usize, blocks: usize) -> u64 {
 fn cases() -> Vec<Case> {
     let mut behind = vec![RETURN];
     behind.extend(ifs(1, 8_000, &[]));
+    let deepest = copies(7_925, 255);
     vec![
-        Case {
-            name: "no ops",
-            ops: vec![],
-            answer: 0,
-        },
-        Case {
-            name: "8,000 blocks behind Return: row check alone",
-            ops: behind,
-            answer: 2 + ENDS,
-        },
-        Case {
-            name: "256 blocks: walked",
-            ops: ifs(0, 256, &[]),
-            answer: 512,
-        },
-        Case {
-            name: "8,000 blocks: refused at the 257th",
-            ops: ifs(0, 8_000, &[]),
-            answer: TOO_DEEP,
-        },
-        Case {
-            name: "a count through 8,180 copies",
-            ops: copies(8_180, 0),
-            answer: copies_answer(8_180, 0),
-        },
-        Case {
-            name: "the same through 7,925 in 255 blocks",
-            ops: copies(7_925, 255),
-            answer: copies_answer(7_925, 255),
-        },
+        cycles("no ops", vec![], 0),
+        cycles("8,000 blocks behind Return", behind, 2 + ENDS),
+        cycles("256 blocks: walked", ifs(0, 256, &[]), 512),
+        cycles("8,000 blocks: refused", ifs(0, 8_000, &[]), TOO_DEEP),
+        cycles(
+            "a count through 8,180 copies",
+            copies(8_180, 0),
+            copies_answer(8_180, 0),
+        ),
+        cycles(
+            "the same, 7,925 in 255 blocks",
+            deepest.clone(),
+            copies_answer(7_925, 255),
+        ),
+        sheet("sheet: no ops", module(&[]), 1),
+        sheet("sheet: 256 blocks", module(&ifs(0, 256, &[])), 1),
+        sheet("sheet: 7,925 copies in 255 blocks", module(&deepest), 1),
+        sheet("sheet: 256 chunks in a chain", chain(), 256),
     ]
 }
 
-/// One chunk with the constant 1 and the case's ops.
-fn module(case: &Case) -> Vec<u32> {
+/// One chunk with the constant 1 and these ops.
+fn module(ops: &[u32]) -> Vec<u32> {
     let mut words = vec![199 << 24 | 1, 200 << 24, 202 << 24 | 1];
     words.extend([
         202 << 24 | 1 << 16,
         202 << 24 | 2 << 16,
         202 << 24 | 3 << 16,
     ]);
-    words.extend(&case.ops);
+    words.extend(ops);
     words
 }
 
-/// In the child: the walk in a thread of so much stack.
+/// In the child: the call in a thread of so much stack.
 fn trial(case: &Case, kib: usize) {
-    let words = module(case);
-    let walk = move || {
-        // The words are lent for the call, and only read.
-        unsafe { pm_cycles(words.as_ptr(), words.len(), 0) }
+    let words = case.words.clone();
+    let sheet = case.sheet;
+    let mut tray = vec![0; 768];
+    let call = move || {
+        // The words are lent for the call, and only read; the tray is the thread's own.
+        unsafe {
+            match sheet {
+                true => pm_sheet(words.as_ptr(), words.len(), tray.as_mut_ptr(), tray.len()),
+                false => pm_cycles(words.as_ptr(), words.len(), 0),
+            }
+        }
     };
-    let thread = thread::Builder::new().stack_size(kib * 1024).spawn(walk);
+    let thread = thread::Builder::new().stack_size(kib * 1024).spawn(call);
     let answer = thread.expect("a thread starts").join().expect("it ends");
     exit(if answer == case.answer { 0 } else { 1 });
 }

@@ -4,15 +4,15 @@ use mathlib.Core.Path.{_≡_, refl, sym}
 use mathlib.Core.Bool.{Bool, true, false, _&&_}
 use mathlib.Core.List.{List}
 use mathlib.Core.Logic.{_⊎_, ⊎-elim}
-use Prim.Native.Nat.{ℕ, zero, suc, _+_, _-_, _*_, _<_, max}
+use Prim.Native.Nat.{ℕ, zero, suc, _+_, _-_, _<_, max}
 use native.Mathlib.Numerals.{sub-one}
 use native.Mathlib.Omega.{arith}
-use Rattle.rules.specs.Outcome.{Result, ok, no, andThen, found, nothing}
+use Rattle.rules.specs.Outcome.{Result, ok, no, andThen}
 use Rattle.rules.specs.Ops.{opAt}
 use Rattle.rules.specs.Form.{Chunk}
 use Rattle.rules.specs.Rows.{Shape, plain, trap, returns, ifTo, elseTo, endIf, loopTo, endLoop, breaks, breaksIf, calls, shapeOf}
 use Rattle.rules.specs.Rows.{step, stop, leave, leaveIf}
-use Rattle.rules.specs.Count.{countAt, countOf}
+use Rattle.rules.specs.Count.{countOf}
 use Rattle.rules.specs.Cycles as R
 use Rattle.rules.specs.Cycles.{rowCost, costs}
 use Rattle.rows.specs.Tree.{HasRow}
@@ -20,8 +20,9 @@ use Rattle.rows.proofs.TreeLaws.{OpensAs, Behind, BreakAt, IfAt, ElseAt, LoopAt
 use Rattle.rows.proofs.Openings.{opened}
 use Rattle.cycles.specs.declared.sums.Breaks.{Breaks}
 use Rattle.cycles.specs.declared.region.Cost.{Cost}
+use Rattle.cycles.specs.declared.region.Step.the-variants.{Goes}
 use Rattle.cycles.specs.Answers.{breaksFrom, breaksOf, costOf, chunkOf, capCharge, chargeAt, regionCost, partCost}
-use Rattle.cycles.specs.Steps.{cut, stepResult, ifTail, armsTail, elseTail, loopTail, onCharge, endsOr, joined, passOnce, onePassAt}
+use Rattle.cycles.specs.Steps.{cut, stepResult, ifTail, armsTail, elseTail, loopTail, onCharge, endsOr, joined, passesSum, allPassesAt, passOnce, onePassAt}
 
 -- a body with a level left
 pub part-some : (c : Chunk) (from to left : ℕ) (b : R.Breaks) {k : Result R.Cost} → (left ≡ 0 → ⊥) → k ≡ regionCost c from to (left - 1) 0 b → k ≡ partCost c from to left b
@@ -161,14 +162,12 @@ module _ (constants ops extras : List ℕ) where
           go true q false = refl
           go false q m = absurd (let z : _≡_ {A = ℕ} 0 1 = cc in omega arith)
 
-      module _ (goes : body .ends ≡ false) where
-        pub loop-uncounted : nothing ≡ countAt (C .constants) ops i → no 9 i ≡ loopTail C i e to left cost (breaksOf b)
-        loop-uncounted n = rw (← walked, goes, ← n)
-
-        module _ (n : ℕ) (count : found n ≡ countAt (C .constants) ops i) where
-          pub loop-open : R.chargeOf C e ≡ no 8 e → no 8 e ≡ loopTail C i e to left cost (breaksOf b)
-          loop-open g = rw (← walked, goes, ← count, g)
-
-          pub loop-counted : (y d : ℕ) → R.chargeOf C e ≡ ok d → y ≡ cut d
-              → regionCost C (suc e) to left (cut (cost + cut (cut (cut (body .cycles + y) * n) + R.breakCost (breaksOf (body .breaks))))) (breaksOf b) ≡ loopTail C i e to left cost (breaksOf b)
-          loop-counted y d g is = rw (← walked, goes, ← count, g, is)
+      -- a body that reaches it
+      pub loop-passes : body .ends ≡ false → stepResult C to left (allPassesAt constants ops extras i e cost body b) ≡ loopTail C i e to left cost (breaksOf b)
+      loop-passes goes = rw (← walked, goes) (go (countOf C i) (R.chargeOf C e))
+        where
+          go : (s r : Result ℕ) → stepResult C to left (onCharge s (λ n. onCharge (capCharge r) (λ d. Goes (suc e) (passesSum cost body n d) b)))
+              ≡ andThen s (λ n. andThen r (λ d. regionCost C (suc e) to left (passesSum cost body n (cut d)) (breaksOf b)))
+          go (ok n) (ok d) = refl
+          go (ok n) (no k p) = refl
+          go (no k p) r = refl

@@ -4,7 +4,7 @@ use mathlib.Core.Path.{_≡_, refl, sym, _∙_, subst}
 use mathlib.Core.Bool.{Bool, true, false, _&&_}
 use mathlib.Core.List.{List}
 use mathlib.Core.Logic.{_⊎_, ⊎-elim}
-use Prim.Native.Nat.{ℕ, suc, _+_, _-_, _*_, _<_, _≤_, max}
+use Prim.Native.Nat.{ℕ, suc, _+_, _-_, _<_, _≤_, max}
 use native.Mathlib.Numerals.{add-one}
 use native.Mathlib.Omega.{arith}
 use borrow.Author.Tests.{eq-eqb, ne-eqb}
@@ -13,15 +13,12 @@ use lib.ListN.{length, getD}
 use Rattle.rules.specs.Outcome.{Result, ok, no}
 use Rattle.rules.specs.Ops.{kind, fieldA, opAt}
 use Rattle.rules.specs.Rows.{Row, end, step, stop, leave, leaveIf, ifThen, ifElse, loop, IsRow}
-use Rattle.rules.specs.Reading.{constantsOf}
-use Rattle.rules.specs.Count.{countAt}
+use Rattle.rules.specs.Count.{countOf}
 use Rattle.rules.specs.Cycles as R
 use Rattle.rows.specs.Tree.{HasRow}
 use Rattle.rows.proofs.TreeLaws.{IfAt, ElseAt, LoopAt}
 use Rattle.rows.proofs.Openings.{opens-plain, opens-return, opens-trap, opens-break, opens-break-if, opens-if, opens-else, opens-loop}
 use Rattle.count.proofs.SearchLaws.{read-op}
-use Rattle.count.specs.Count.{boundOf}
-use Rattle.count.specs.declared.bound.Bound as B
 use Rattle.cycles.specs.declared.sums.Breaks.{Breaks}
 use Rattle.cycles.specs.declared.charge.Charge.{Charge}
 use Rattle.cycles.specs.declared.charge.Charge.the-variants.{Is, OpenText}
@@ -31,7 +28,7 @@ use Rattle.cycles.specs.declared.region.Step.{Step}
 use Rattle.cycles.specs.declared.region.Step.the-variants.{Goes, Ends, Refused}
 use Rattle.cycles.specs.Answers.{breaksOf, costOf, chunkOf, chargeAt, chargeResult, walkResult, regionCost, partCost}
 use Rattle.cycles.specs.Steps.{RowFits, StepFits, IfFits, ElseFits, LoopFits, StepMeans, IfMeans, ElseMeans, LoopMeans, Onward}
-use Rattle.cycles.specs.Steps.{cut, endedAt, joined, onePassAt, passOnce, onCharge, endsOr, elseTail}
+use Rattle.cycles.specs.Steps.{cut, Passed, stops, leaves, mayLeave, goesOn, endedAt, joined, onePassAt, passOnce, passesSum, allPassesAt, onCharge, endsOr, elseTail}
 use Rattle.cycles.proofs.CycleLaws as L
 
 -- a row that starts no earlier than it ends is empty
@@ -185,6 +182,11 @@ module _ {constants ops extras : List ℕ} {i e to : ℕ} (h : LoopFits constant
   once-onward cost body b true = behind-loop
   once-onward cost body b false = tt
 
+  passes-onward : (cost : ℕ) (body : Cost) (b : Breaks) (s r : Result ℕ) → Onward ops i to (onCharge s (λ n. onCharge r (λ d. Goes (suc e) (passesSum cost body n d) b)))
+  passes-onward cost body b (ok n) (ok d) = behind-loop
+  passes-onward cost body b (ok n) (no k p) = tt
+  passes-onward cost body b (no k p) r = tt
+
   module _ (left cost : ℕ) (b : Breaks) (r : W.Walk) (walked : walkResult r ≡ partCost (chunkOf constants ops extras) (i + 1) e left R.unbroken) where
     pub loop-refused : {n p : ℕ} → r ≡ W.the-variants.Refused n p → LoopMeans constants ops extras i e to left cost b (Refused n p)
     loop-refused z = (L.loop-refused constants ops extras i e to left cost b _ _ (rw (z, add-one) at walked), tt)
@@ -194,26 +196,12 @@ module _ {constants ops extras : List ℕ} {i e to : ℕ} (h : LoopFits constant
       loop-once t k is =
           rw is (L.loop-once constants ops extras i e to left cost b body (rw (done, add-one) at walked) t, once-onward cost body b (body .breaks .met))
 
-      module _ (goes : body .ends ≡ false) (o : B.Bound) (count : boundOf o ≡ countAt (constantsOf constants) ops i) where
-        pub loop-uncounted : o ≡ B.the-variants.Nothing → LoopMeans constants ops extras i e to left cost b (Refused 9 i)
-        loop-uncounted n = (L.loop-uncounted constants ops extras i e to left cost b body (rw (done, add-one) at walked) goes (rw n at count), tt)
-
-        module _ {n : ℕ} (counted : o ≡ B.the-variants.Count n) (q : Charge) (charged : chargeResult e q ≡ chargeAt ops extras e) where
-          pub loop-open : q ≡ OpenText → LoopMeans constants ops extras i e to left cost b (Refused 8 e)
-          loop-open k = (
-            L.loop-open constants ops extras i e to left cost b body (rw (done, add-one) at walked) goes n (rw counted at count)
-                (L.charge-open constants ops extras e (rw k at charged)),
-            tt,
+      pub loop-passes : body .ends ≡ false → (k : Step) → k ≡ allPassesAt constants ops extras i e cost body b → LoopMeans constants ops extras i e to left cost b k
+      loop-passes t k is =
+          rw is (
+            L.loop-passes constants ops extras i e to left cost b body (rw (done, add-one) at walked) t,
+            passes-onward cost body b (countOf (chunkOf constants ops extras) i) (chargeAt ops extras e),
           )
-
-          pub loop-goes : {y pass all most sum total : ℕ} → q ≡ Is y → pass ≡ cut (body .cycles + y) → all ≡ cut (pass * n)
-              → most ≡ R.breakCost (breaksOf (body .breaks)) → sum ≡ cut (all + most) → total ≡ cut (cost + sum)
-              → LoopMeans constants ops extras i e to left cost b (Goes (e + 1) total b)
-          loop-goes {y} k p a m s t =
-              let d = L.charge-is constants ops extras e y (rw k at charged) in
-              let w = rw (done, add-one) at walked in
-              let g = L.loop-counted constants ops extras i e to left cost b body w goes n (rw counted at count) y (d .0) (d .1) (d .2) in
-              rw (add-one, t, s, m, a, p) (g, behind-loop)
 
 -- the op at i
 module _ {constants ops extras : List ℕ} {i to : ℕ} (s : StepFits constants ops extras i to) where
@@ -295,29 +283,37 @@ module _ {constants ops extras : List ℕ} {i to left cycles cost : ℕ} {b : Br
       let g = L.behind-loop constants ops extras i to left cycles (breaksOf b) (a .own) (a .exact) (a .charge) (a .is) _ (loop-at (loop-fits (a .fits) k)) in
       (m .0 ∙ rw (a .sum) g, m .1)
 
-  pub step-ends : (kind (getD ops i 0) ≡ 31) ⊎ (kind (getD ops i 0) ≡ 50) → StepMeans constants ops extras i to left cycles b (endedAt cost b)
+  step-ends : (kind (getD ops i 0) ≡ 31) ⊎ (kind (getD ops i 0) ≡ 50) → StepMeans constants ops extras i to left cycles b (endedAt cost b)
   step-ends k =
       let lt = a .fits .here in
       let o = ⊎-elim (λ e. opens-return (opAt ops) true i to row lt (here e)) (λ e. opens-trap (opAt ops) true i to row lt (here e)) k in
       (rw (a .sum) (L.behind-stop constants ops extras i to left cycles (breaksOf b) (a .own) (a .exact) (a .charge) (a .is) o), tt)
 
-  pub step-break : (n : Breaks) → breaksOf n ≡ R.noteBreak (breaksOf b) cost → kind (getD ops i 0) ≡ 26
+  step-break : (n : Breaks) → breaksOf n ≡ R.noteBreak (breaksOf b) cost → kind (getD ops i 0) ≡ 26
       → StepMeans constants ops extras i to left cycles b (endedAt cost n)
   step-break n z k =
       let o = opens-break (opAt ops) true i to row (a .fits .here) (here k) in
       (rw (z, a .sum) (L.behind-break constants ops extras i to left cycles (breaksOf b) (a .own) (a .exact) (a .charge) (a .is) o), tt)
 
-  pub step-break-if : (n : Breaks) → breaksOf n ≡ R.noteBreak (breaksOf b) cost → kind (getD ops i 0) ≡ 27
+  step-break-if : (n : Breaks) → breaksOf n ≡ R.noteBreak (breaksOf b) cost → kind (getD ops i 0) ≡ 27
       → StepMeans constants ops extras i to left cycles b (Goes (i + 1) cost n)
   step-break-if n z k =
       let o = opens-break-if (opAt ops) true i to row (a .fits .here) (here k) in
       let g = L.behind-break-if constants ops extras i to left cycles (breaksOf b) (a .own) (a .exact) (a .charge) (a .is) o in
       rw add-one (rw (z, a .sum) g, (omega arith, a .fits .here, o .behind .rest))
 
-  pub step-plain : (kind (getD ops i 0) ≡ 21 → ⊥) → (kind (getD ops i 0) ≡ 24 → ⊥) → (kind (getD ops i 0) ≡ 26 → ⊥) → (kind (getD ops i 0) ≡ 27 → ⊥)
+  step-plain : (kind (getD ops i 0) ≡ 21 → ⊥) → (kind (getD ops i 0) ≡ 24 → ⊥) → (kind (getD ops i 0) ≡ 26 → ⊥) → (kind (getD ops i 0) ≡ 27 → ⊥)
       → (kind (getD ops i 0) ≡ 31 → ⊥) → (kind (getD ops i 0) ≡ 50 → ⊥) → StepMeans constants ops extras i to left cycles b (Goes (i + 1) cost b)
   step-plain p q r s t u =
       let w = read-here (a .fits) in
       let o = opens-plain (opAt ops) true i to row (a .fits .here) (rw w p) (rw w q) (rw w r) (rw w s) (rw w t) (rw w u) in
       let g = L.behind-plain constants ops extras i to left cycles (breaksOf b) (a .own) (a .exact) (a .charge) (a .is) o in
       rw add-one (rw (a .sum) g, (omega arith, a .fits .here, o .rest))
+
+  -- an op that opens no block
+  pub step-passed : {r : Step} → (kind (getD ops i 0) ≡ 21 → ⊥) → (kind (getD ops i 0) ≡ 24 → ⊥) → Passed (kind (getD ops i 0)) i cost b r
+      → StepMeans constants ops extras i to left cycles b r
+  step-passed p q (stops k) = step-ends k
+  step-passed p q (leaves {n = n} k z) = step-break n z k
+  step-passed p q (mayLeave {n = n} k z) = step-break-if n z k
+  step-passed p q (goesOn r s t u) = step-plain p q r s t u

@@ -1,4 +1,4 @@
--- Products of 32 bits, breaks noted, charges, and the steps that join arms or pass once, said of the values that the code reads.
+-- Products of 32 bits, breaks noted, charges, and the steps that join arms or pass a body, said of the values that the code reads.
 -- Assumes nothing.
 use mathlib.Core.Path.{_≡_, sym, _∙_, subst⁻¹}
 use mathlib.Core.Bool.{Bool, true, false, _&&_}
@@ -12,15 +12,16 @@ use lib.Dec.{leb}
 use lib.ListN.{length, getD}
 use lib.Pow.{pow-pos, pow-add}
 use Rattle.rules.specs.Ops.{figuresOf}
-use Rattle.rules.specs.Reading.{extrasOf, extraAt}
-use Rattle.rules.specs.Cycles.{costliest, noteBreak}
-use Rattle.rules.specs.Outcome.{ok, no}
+use Rattle.rules.specs.Reading.{constantsOf, extrasOf, extraAt}
+use Rattle.rules.specs.Count.{countAt}
+use Rattle.rules.specs.Cycles.{costliest, noteBreak, breakCost}
+use Rattle.rules.specs.Outcome.{ok, no, found, nothing}
 use Rattle.count.proofs.SearchLaws.{read-op}
-use Rattle.cycles.specs.Answers.{breaksFrom, chargeAt}
+use Rattle.cycles.specs.Answers.{breaksFrom, breaksOf, chargeAt}
 use Rattle.cycles.specs.declared.sums.Breaks.{Breaks}
 use Rattle.cycles.specs.declared.region.Cost.{Cost}
 use Rattle.cycles.specs.declared.region.Step.the-variants.{Goes, Refused}
-use Rattle.cycles.specs.Steps.{cut, endedAt, endsOr, joined, onePassAt}
+use Rattle.cycles.specs.Steps.{cut, endedAt, endsOr, joined, allPassesAt, onePassAt}
 
 -- the product of two numbers of k bits has at most k + k
 pub below : (k : ℕ) {a b : ℕ} → a < 2 ^ k → b < 2 ^ k → a * b < 2 ^ (k + k)
@@ -56,6 +57,20 @@ module _ (e cost s : ℕ) (body : Cost) (b : Breaks) where
   pub once-goes : body .breaks .met ≡ true → (g : ℕ) → g ≡ max (body .cycles) (body .breaks .costliest) → s ≡ cut (cost + g)
       → Goes (e + 1) s b ≡ onePassAt e cost body b
   once-goes m g top is = rw (m, is, top, add-one)
+
+-- a body that reaches EndLoop at e, of a Loop at i
+module _ (constants ops extras : List ℕ) (i e cost : ℕ) (body : Cost) (b : Breaks) where
+  pub passes-uncounted : nothing ≡ countAt (constantsOf constants) ops i → Refused 9 i ≡ allPassesAt constants ops extras i e cost body b
+  passes-uncounted o = rw (← o)
+
+  module _ (n : ℕ) (count : found n ≡ countAt (constantsOf constants) ops i) where
+    pub passes-open : no 8 e ≡ chargeAt ops extras e → Refused 8 e ≡ allPassesAt constants ops extras i e cost body b
+    passes-open o = rw (← count, ← o)
+
+    pub passes-total : (d pass all most sum total : ℕ) → ok d ≡ chargeAt ops extras e → pass ≡ cut (body .cycles + d) → all ≡ cut (pass * n)
+        → most ≡ breakCost (breaksOf (body .breaks)) → sum ≡ cut (all + most) → total ≡ cut (cost + sum)
+        → Goes (e + 1) total b ≡ allPassesAt constants ops extras i e cost body b
+    passes-total d pass all most sum total close p a m s t = rw (← count, ← close, add-one, t, s, m, a, p)
 
 -- both arms walked, with Else at e and EndIf at f
 module _ (ops extras : List ℕ) (e f cost : ℕ) (arm other : Cost) where

@@ -2,7 +2,8 @@
 use mathlib.Core.Path.{_≡_}
 use mathlib.Core.Bool.{Bool, true, false, _&&_}
 use mathlib.Core.List.{List}
-use Prim.Native.Nat.{ℕ, suc, _+_, _-_, _≤_, _<_, min, max}
+use mathlib.Core.Logic.{_⊎_}
+use Prim.Native.Nat.{ℕ, suc, _+_, _-_, _*_, _≤_, _<_, min, max}
 use lib.Dec.{eqb}
 use lib.ListN.{length}
 use Rattle.rules.specs.Outcome.{Result, ok, no, andThen}
@@ -115,6 +116,7 @@ LoopMeans constants ops extras i e to left cost b r =
 abbrev pub endedAt : ℕ → Breaks → Step
 endedAt cost b = Ends (record { cycles = cost; ends = true; breaks = b })
 
+-- a charge or a count, or its refusal
 abbrev pub onCharge : Result ℕ → (ℕ → Step) → Step
 onCharge (ok c) next = next c
 onCharge (no n p) next = Refused n p
@@ -137,3 +139,20 @@ passOnce false e cost body b = endedAt (cut (cost + body .cycles)) b
 -- a body that never reaches its end, as a step
 abbrev pub onePassAt : ℕ → ℕ → Cost → Breaks → Step
 onePassAt e cost body b = passOnce (body .breaks .met) e cost body b
+
+-- the cost behind n passes of a body and its EndLoop, charged d, with the costliest break
+abbrev pub passesSum : ℕ → Cost → ℕ → ℕ → ℕ
+passesSum cost body n d = cut (cost + cut (cut (cut (body .cycles + d) * n) + R.breakCost (breaksOf (body .breaks))))
+
+-- a body that reaches its end, as a step: its count, EndLoop at e, and the passes
+abbrev pub allPassesAt : List ℕ → List ℕ → List ℕ → ℕ → ℕ → ℕ → Cost → Breaks → Step
+allPassesAt constants ops extras i e cost body b =
+    onCharge (countOf (chunkOf constants ops extras) i)
+    (λ n. onCharge (chargeAt ops extras e) (λ d. Goes (suc e) (passesSum cost body n d) b))
+
+-- what an op of kind k at i that opens no block gives, at the cost behind it
+pub data Passed (k i cost : ℕ) (b : Breaks) : Step → Type 0 where
+  stops : (k ≡ 31) ⊎ (k ≡ 50) → Passed k i cost b (endedAt cost b)
+  leaves : {n : Breaks} → k ≡ 26 → breaksOf n ≡ R.noteBreak (breaksOf b) cost → Passed k i cost b (endedAt cost n)
+  mayLeave : {n : Breaks} → k ≡ 27 → breaksOf n ≡ R.noteBreak (breaksOf b) cost → Passed k i cost b (Goes (i + 1) cost n)
+  goesOn : (k ≡ 26 → ⊥) → (k ≡ 27 → ⊥) → (k ≡ 31 → ⊥) → (k ≡ 50 → ⊥) → Passed k i cost b (Goes (i + 1) cost b)

@@ -6,14 +6,17 @@ use rows::check::RowAnswer;
 use rows::check::chunk_row;
 use words::lookup::Lookup;
 use words::lookup::find_chunk;
+use words::parts::Parts;
 use words::parts::constants_of;
 use words::parts::extras_of;
 use words::parts::ops_of;
 ghost use mathlib.Core.Path.{_≡_};
+ghost use Rattle.rules.specs.Form.{Chunk};
 ghost use Rattle.rules.specs.Sheet.{cyclesOutcome};
+ghost use Rattle.words.specs.Parts.{PartsOf, PartsFit};
 ghost use Rattle.cycles.specs.Answers.{walkResult, chunkOf};
 ghost use Rattle.cycles.specs.Steps.{RowFits};
-ghost use Rattle.cycles.specs.Entry.{answerOutcome, wholeCost};
+ghost use Rattle.cycles.specs.Entry.{answerOutcome, wholeCost, chunkCost};
 
 // The cycles and whether the row ends, or refusal 1, 2, 12 or 3 to 9.
 pub enum CyclesAnswer {
@@ -40,6 +43,28 @@ pub fn wcet_region(constants: &[u32], ops: &[u32], extras: &[u32], from: usize, 
     wcet_region_at(constants, ops, extras, from, to, 256, none)
 }
 
+// The cycle walk of the chunk with these parts: 3, 4, 5, 6, and 7 to 9 as the walk meets them.
+fn chunk_cycles(words: &[u32], p: Parts) -> Walk
+    requires { ⌜ PartsFit (now words) p ⌝ }
+    ensures { λ r. ⌜ ((k : Chunk) → PartsOf (now (words .entry)) p k → walkResult r ≡ chunkCost k) ⌝ }
+{
+    let ops = ops_of(words, p);
+    let row = chunk_row(p.mode, ops);
+    let range = match row {
+        RowAnswer::Is(g) => g,
+        RowAnswer::Refused { number, place } => {
+            return Walk::Refused { number, place };
+        }
+    };
+    wcet_region(
+        constants_of(words, p),
+        ops,
+        extras_of(words, p),
+        range.from,
+        range.to,
+    )
+}
+
 // The cycle walk of chunk c.
 pub fn cycle_walk(words: &[u32], c: usize) -> CyclesAnswer
     ensures { λ r. ⌜ answerOutcome r ≡ cyclesOutcome (now (words .entry)) c ⌝ }
@@ -59,25 +84,7 @@ pub fn cycle_walk(words: &[u32], c: usize) -> CyclesAnswer
         }
         Lookup::At(p) => p,
     };
-    let ops = ops_of(words, parts);
-    let row = chunk_row(parts.mode, ops);
-    let range = match row {
-        RowAnswer::Refused { number, place } => {
-            return CyclesAnswer::Refused {
-                number,
-                chunk: c,
-                place,
-            };
-        }
-        RowAnswer::Is(g) => g,
-    };
-    let walk = wcet_region(
-        constants_of(words, parts),
-        ops,
-        extras_of(words, parts),
-        range.from,
-        range.to,
-    );
+    let walk = chunk_cycles(words, parts);
     match walk {
         Walk::Done(cost) => CyclesAnswer::Are {
             cycles: cost.cycles,

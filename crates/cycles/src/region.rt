@@ -9,10 +9,10 @@ use crate::sums::note_break;
 use count::bound::Bound;
 use count::bound::extract_loop_iteration_bound;
 ghost use mathlib.Core.Path.{_≡_};
-ghost use Prim.Native.Nat.{_<_};
+ghost use Prim.Native.Nat.{_≤_, _<_};
 ghost use lib.ListN.{length};
 ghost use Rattle.cycles.specs.Answers.{breaksOf, walkResult, partCost, regionCost, chunkOf};
-ghost use Rattle.cycles.specs.Steps.{RowFits, StepFits, IfFits, ElseFits, LoopFits, StepMeans, IfMeans, ElseMeans, LoopMeans, endedAt, joined, onePassAt};
+ghost use Rattle.cycles.specs.Steps.{RowFits, StepFits, IfFits, ElseFits, LoopFits, StepMeans, IfMeans, ElseMeans, LoopMeans, Passed, endedAt, joined, allPassesAt, onePassAt};
 
 // What the walk of a row gives: its cycles, whether it ends, and the breaks out of the loop around it.
 pub struct Cost {
@@ -118,6 +118,14 @@ fn wcet_step(
     if k == 24 {
         return wcet_loop(constants, ops, extras, i, t - 1, to, left, cost, breaks);
     }
+    pass_op(k, i, cost, breaks)
+}
+
+// Behind an op of kind k at i that opens no block, charged already: Return, Trap and Break end the row, and Break and BreakIf are noted.
+fn pass_op(k: u32, i: usize, cost: u32, breaks: Breaks) -> Step
+    requires { ⌜ i < 65536 ⌝ }
+    ensures { λ r. ⌜ Passed k i cost breaks r ⌝ }
+{
     if k == 31 || k == 50 {
         return ended(cost, breaks);
     }
@@ -289,6 +297,23 @@ fn wcet_loop(
     if body.ends {
         return one_pass(e, cost, body, breaks);
     }
+    all_passes(constants, ops, extras, i, e, cost, body, breaks)
+}
+
+// A body that reaches EndLoop at e, of a Loop at i: its count, EndLoop, and the passes with the costliest break.
+fn all_passes(
+    constants: &[u32],
+    ops: &[u32],
+    extras: &[u32],
+    i: usize,
+    e: usize,
+    cost: u32,
+    body: Cost,
+    breaks: Breaks,
+) -> Step
+    requires { ⌜ (e < length (now ops)) × (length (now ops) ≤ 16384) ⌝ }
+    ensures { λ r. ⌜ r ≡ allPassesAt (now (constants .entry)) (now (ops .entry)) (now (extras .entry)) i e cost body breaks ⌝ }
+{
     let bound = extract_loop_iteration_bound(constants, ops, i);
     let Bound::Count(n) = bound else {
         return Step::Refused {

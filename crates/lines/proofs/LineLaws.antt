@@ -10,7 +10,7 @@ use Rattle.rules.specs.Cycles as R
 use Rattle.rules.specs.Stack as T
 use Rattle.rules.specs.Sheet.{lineOf, chunkLine}
 use Rattle.words.specs.declared.parts.Parts.{Parts}
-use Rattle.words.specs.Parts.{partOf, PartsOf}
+use Rattle.words.specs.Parts.{partOf, PartsOf, PartsFit}
 use Rattle.rows.specs.Answers.{rangeRow}
 use Rattle.rows.proofs.PartRows.{row-refused, row-there}
 use Rattle.cycles.specs.Answers.{chunkOf}
@@ -18,9 +18,8 @@ use Rattle.cycles.specs.Entry.{wholeCost}
 use Rattle.cycles.proofs.EntryLaws.{whole-cost}
 use Rattle.stack.specs.Answers.{partsStack}
 use Rattle.stack.proofs.EntryLaws.{whole-stack}
-use Rattle.lines.specs.Line.{LineFits}
 
-module _ {ws : List ℕ} {p : Parts} (f : LineFits ws p) {ops : List ℕ} (is-ops : ops ≡ partOf (p .ops) (p .extras) ws) (callees : List ℕ)
+module _ {ws : List ℕ} {p : Parts} (f : PartsFit ws p) {ops : List ℕ} (is-ops : ops ≡ partOf (p .ops) (p .extras) ws) (callees : List ℕ)
     (k : Chunk) (parts : PartsOf ws p k) where
   pub row-told : (n q : ℕ) → no n q ≡ rangeRow (p .mode) ops → no n q ≡ chunkLine k callees
   row-told n q e = rw (row-refused parts (f .short) is-ops n q e)

@@ -14,8 +14,8 @@ use words::units::StackBytes;
 ghost use mathlib.Core.Path.{_≡_};
 ghost use Rattle.rules.specs.Form.{Chunk};
 ghost use Rattle.rules.specs.Sheet.{chunkLine};
-ghost use Rattle.words.specs.Parts.{PartsOf};
-ghost use Rattle.lines.specs.Line.{lineResult, LineFits};
+ghost use Rattle.words.specs.Parts.{PartsOf, PartsFit};
+ghost use Rattle.lines.specs.Line.{lineResult};
 
 // A chunk's line: cycles, peak in slots, stack bytes.
 pub struct Line {
@@ -32,7 +32,7 @@ pub enum LineAnswer {
 
 // The line of the chunk with these parts, over the stack bytes of its callees: 3, 4, 5, 6, the cycle walk, the stack walk, 11.
 pub fn chunk_line(words: &[u32], p: Parts, callees: &[u32]) -> LineAnswer
-    requires { ⌜ LineFits (now words) p ⌝ }
+    requires { ⌜ PartsFit (now words) p ⌝ }
     ensures { λ r. ⌜ ((k : Chunk) → PartsOf (now (words .entry)) p k → lineResult r ≡ chunkLine k (now (callees .entry))) ⌝ }
 {
     let ops = ops_of(words, p);

@@ -8,14 +8,9 @@ use lib.ListN.{length, getD, take, drop}
 use lib.Seq.{take-suc}
 use Rattle.rules.specs.Sheet.{Line, noLine}
 use Rattle.rules.specs.Text.{lineText, linesText}
-use Rattle.text.specs.Paste.{pasted}
 use Rattle.text.proofs.PasteLaws.{Put, then, pasted-none, pasted-length}
 use Rattle.sheets.specs.Module.{lineList}
-
--- a figure behind the first one
-next : (l : List ℕ) (i : ℕ) → getD (drop 1 l) i 0 ≡ getD l (suc i) 0
-next [] i = refl
-next (x ∷ l) i = refl
+use Rattle.sheets.proofs.LineLaws.{next}
 
 -- the line of chunk k
 line-at : (n : ℕ) (cycles peaks bytes : List ℕ) (k : ℕ) → k < n

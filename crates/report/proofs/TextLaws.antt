@@ -1,14 +1,14 @@
 -- What is printed: a text at the buffer's front, the text of each outcome, room for the lines, and bytes that are no words.
 -- Assumes nothing.
-use mathlib.Core.Path.{_≡_, refl, sym, ap, _∙_}
+use mathlib.Core.Path.{_≡_, sym, ap, _∙_}
 use mathlib.Core.Bool.{true, false}
 use mathlib.Core.List.{List, _++_}
-use Prim.Native.Nat.{ℕ, _+_, _*_, _%_, _<_, _≤_}
+use Prim.Native.Nat.{ℕ, _%_, _<_, _≤_}
 use native.Mathlib.Omega.{arith}
 use borrow.Author.Tests.{eq-eqb, ne-eqb}
 use lib.ListN.{length, getD, take}
 use lib.Seq.{getD-take, length-take-le}
-use Rattle.rules.specs.Outcome.{answer, refused}
+use Rattle.rules.specs.Outcome.{refused}
 use Rattle.rules.specs.Sheet.{readOutcome, sheetOf, sheetOutcome}
 use Rattle.rules.specs.Text.{heading, linesText, outcomeText, wordsOf, sheetText}
 use Rattle.rules.proofs.ReadingAgrees.{read-over}

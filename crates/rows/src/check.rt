@@ -90,11 +90,10 @@ fn row_within(ops: &[u32], from: usize, to: usize, ends: &mut [u32]) -> bool
     let mut loops: usize = 0;
     let mut i = from;
     while i < to {
-        let bound = if depth == 0 {
-            to
-        } else {
-            ends[depth - 1] as usize
-        };
+        let mut bound = to;
+        if depth != 0 {
+            bound = ends[depth - 1] as usize;
+        }
         if i < bound {
             let opening = opens_at(ops, i, bound, 0 < loops);
             match opening {

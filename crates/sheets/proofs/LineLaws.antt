@@ -51,7 +51,7 @@ tray-length [] = refl
 tray-length (l ∷ ls) = omega (arith, tray-length ls)
 
 -- a figure behind the first one
-next : (l : List ℕ) (i : ℕ) → getD (drop 1 l) i 0 ≡ getD l (suc i) 0
+pub next : (l : List ℕ) (i : ℕ) → getD (drop 1 l) i 0 ≡ getD l (suc i) 0
 next [] i = refl
 next (x ∷ l) i = refl
 

@@ -12,11 +12,10 @@ use Rattle.rules.specs.Sheet as R
 use Rattle.rules.specs.Sheet.{noLine, chunkLine, linesIn}
 use Rattle.rules.proofs.ReadingAgrees.{read-words}
 use Rattle.words.specs.declared.parts.Parts.{Parts}
-use Rattle.words.specs.Parts.{partsFrom, chunksIn, PartsOf}
+use Rattle.words.specs.Parts.{partsFrom, chunksIn, PartsOf, PartsFit}
 use Rattle.words.specs.declared.heads.Places.{Places}
 use Rattle.words.specs.Places.{PlacedAt}
 use Rattle.words.proofs.PartLaws.{chunk-fits, at-within, chunk-parts}
-use Rattle.lines.specs.Line.{LineFits}
 use Rattle.sheets.specs.Module.{lineList, Ordering}
 use Rattle.sheets.proofs.LineLaws.{lines-bytes, lines-blank, lines-set}
 
@@ -105,7 +104,7 @@ module _ {ws order : List ℕ} {places : Places} {n : ℕ} (o : Ordering ws plac
     turn-parts =
         rw (is, placed .head, placed .ops-at, placed .extras-at, placed .end-at) (chunk-parts ws (chunksIn ws) (o .words .reads) (getD order j 0) below)
 
-    pub turn-fits : LineFits ws p
+    pub turn-fits : PartsFit ws p
     turn-fits =
         record {
           chunk = chunkAt (chunksIn ws) (getD order j 0);

@@ -4,11 +4,11 @@ use mathlib.Core.Path.{_≡_, sym, _∙_}
 use mathlib.Core.List.{List}
 use Prim.Native.Nat.{ℕ, _≤_}
 use lib.ListN.{length}
-use Rattle.rules.specs.Outcome.{ok, no, answer, refused}
+use Rattle.rules.specs.Outcome.{Result, ok, no, refused, inChunk}
 use Rattle.rules.specs.Ops.{opAt}
 use Rattle.rules.specs.Form.{Chunk, ChunkFits}
 use Rattle.rules.specs.Rows.{Range}
-use Rattle.rules.specs.Stack.{Stack, rowStack}
+use Rattle.rules.specs.Stack.{Stack, rowStack, chunkStack}
 use Rattle.rules.specs.Sheet.{stackOutcome}
 use Rattle.words.specs.declared.parts.Parts.{Parts}
 use Rattle.words.specs.Parts.{partOf, PartsOf}
@@ -34,19 +34,19 @@ module _ {ws : List ℕ} {p : Parts} {k : Chunk} (parts : PartsOf ws p k) {ops :
         row = record { within = there .within; short = ops-short parts short is-ops; has-row = there .has-row };
       }
 
+-- the tests and the walk of a chunk's parts are the chunk's
+module _ {ws : List ℕ} {p : Parts} (short : length ws ≤ 16384) {ops : List ℕ} (is-ops : ops ≡ partOf (p .ops) (p .extras) ws) (callees : List ℕ)
+    (k : Chunk) (parts : PartsOf ws p k) where
+  pub row-told : (n q : ℕ) → no n q ≡ rangeRow (p .mode) ops → no n q ≡ chunkStack k callees
+  row-told n q e = rw (row-refused parts short is-ops n q e)
+
+  pub range-told : {constants : List ℕ} → constants ≡ partOf (p .constants) (p .ops) ws → (g : Range) → ok g ≡ rangeRow (p .mode) ops
+      → {s : Result Stack} → s ≡ partsStack constants ops callees (p .locals) (g .from) (g .to) → s ≡ chunkStack k callees
+  range-told is-constants g row e = rw (row-there parts short is-ops row .tree, whole-stack parts is-ops is-constants callees g ∙ sym e)
+
 module _ (ws : List ℕ) (c : ℕ) (callees : List ℕ) where
   pub lookup-told : (n k q : ℕ) → refused n k q ≡ partsOutcome ws c → refused n k q ≡ stackOutcome ws c callees
   lookup-told n k q e = rw (← lookup-refused ws c n k q e)
 
-  module _ {p : Parts} (h : Chunked ws c p) {ops : List ℕ} (is-ops : ops ≡ partOf (p .ops) (p .extras) ws) where
-    pub row-told : (n q : ℕ) → no n q ≡ rangeRow (p .mode) ops → refused n c q ≡ stackOutcome ws c callees
-    row-told n q e = rw (h .outcome, row-refused (h .parts) (h .short) is-ops n q e)
-
-    module _ {constants : List ℕ} (is-constants : constants ≡ partOf (p .constants) (p .ops) ws) (g : Range) (row : ok g ≡ rangeRow (p .mode) ops) where
-      pub stack-refused : (n q : ℕ) → no n q ≡ partsStack constants ops callees (p .locals) (g .from) (g .to) → refused n c q ≡ stackOutcome ws c callees
-      stack-refused n q e =
-          rw (h .outcome, row-there (h .parts) (h .short) is-ops row .tree, whole-stack (h .parts) is-ops is-constants callees g ∙ sym e)
-
-      pub stack-told : (s : Stack) → ok s ≡ partsStack constants ops callees (p .locals) (g .from) (g .to) → answer s ≡ stackOutcome ws c callees
-      stack-told s e =
-          rw (h .outcome, row-there (h .parts) (h .short) is-ops row .tree, whole-stack (h .parts) is-ops is-constants callees g ∙ sym e)
+  pub chunk-told : {p : Parts} (h : Chunked ws c p) {s : Result Stack} → s ≡ chunkStack (h .chunk) callees → inChunk c s ≡ stackOutcome ws c callees
+  chunk-told h e = rw (h .outcome, e)

@@ -6,12 +6,17 @@ use rows::check::RowAnswer;
 use rows::check::chunk_row;
 use words::lookup::Lookup;
 use words::lookup::find_chunk;
+use words::parts::Parts;
 use words::parts::constants_of;
 use words::parts::ops_of;
 use words::units::Slots;
 use words::units::StackBytes;
 ghost use mathlib.Core.Path.{_≡_};
+ghost use Rattle.rules.specs.Form.{Chunk};
+ghost use Rattle.rules.specs.Stack.{chunkStack};
 ghost use Rattle.rules.specs.Sheet.{stackOutcome};
+ghost use Rattle.words.specs.Parts.{PartsOf, PartsFit};
+ghost use Rattle.stack.specs.Answers.{stackResult};
 ghost use Rattle.stack.specs.Entry.{answerOutcome};
 
 // Peak in slots, delta and stack bytes, or refusal 1, 2, 12, 3 to 7, 9 or 11.
@@ -26,6 +31,29 @@ pub enum StackAnswer {
         chunk: usize,
         place: usize,
     },
+}
+
+// The stack walk of the chunk with these parts, over the stack bytes of the callees: 3, 4, 5, 6, then 7 and 9 as the walk meets them, then 11.
+fn chunk_stack(words: &[u32], p: Parts, callees: &[u32]) -> StackResult
+    requires { ⌜ PartsFit (now words) p ⌝ }
+    ensures { λ r. ⌜ ((k : Chunk) → PartsOf (now (words .entry)) p k → stackResult r ≡ chunkStack k (now (callees .entry))) ⌝ }
+{
+    let ops = ops_of(words, p);
+    let row = chunk_row(p.mode, ops);
+    let range = match row {
+        RowAnswer::Is(g) => g,
+        RowAnswer::Refused { number, place } => {
+            return StackResult::Refused { number, place };
+        }
+    };
+    compute_chunk_wcmu(
+        constants_of(words, p),
+        ops,
+        callees,
+        p.locals,
+        range.from,
+        range.to,
+    )
 }
 
 // The stack walk of chunk c, over the stack bytes of the callees by chunk index.
@@ -47,26 +75,7 @@ pub fn stack_walk(words: &[u32], c: usize, callees: &[u32]) -> StackAnswer
         }
         Lookup::At(p) => p,
     };
-    let ops = ops_of(words, parts);
-    let row = chunk_row(parts.mode, ops);
-    let range = match row {
-        RowAnswer::Refused { number, place } => {
-            return StackAnswer::Refused {
-                number,
-                chunk: c,
-                place,
-            };
-        }
-        RowAnswer::Is(g) => g,
-    };
-    let stack = compute_chunk_wcmu(
-        constants_of(words, parts),
-        ops,
-        callees,
-        parts.locals,
-        range.from,
-        range.to,
-    );
+    let stack = chunk_stack(words, parts, callees);
     match stack {
         StackResult::Is { peak, delta, bytes } => StackAnswer::Is { peak, delta, bytes },
         StackResult::Refused { number, place } => StackAnswer::Refused {

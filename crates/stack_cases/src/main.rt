@@ -196,11 +196,14 @@ fn calls() {
     show(b"callee past the list's end", &past, 0, &callees);
 }
 
-fn arms() {
+fn arm_below() {
     let below = [HEAD + 1, CHUNK, POP_N + 9 * NEXT_B, IF + 3, CONST, END_IF];
     show_alone(b"PopN 9, If 3, Const 0, EndIf", &below);
     let flat = [HEAD + 1, CHUNK, POP_N + 9 * NEXT_B, CONST];
     show_alone(b"PopN 9, Const 0", &flat);
+}
+
+fn two_arms() {
     let first = [
         HEAD + 1,
         CHUNK,
@@ -237,6 +240,9 @@ fn arms() {
         CONST,
     ];
     show_alone(b"both arms ended", &both);
+}
+
+fn one_arm() {
     let negative = [HEAD + 1, CHUNK, IF + 2, POP_N + 3 * NEXT_B, END_IF];
     show_alone(b"If alone, negative arm", &negative);
     let positive = [HEAD + 1, CHUNK, IF + 3, CONST, CONST, END_IF];
@@ -368,7 +374,9 @@ fn main() {
     chunks();
     documented();
     calls();
-    arms();
+    arm_below();
+    two_arms();
+    one_arm();
     loops();
     deepest();
     rows();

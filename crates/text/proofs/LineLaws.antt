@@ -1,4 +1,4 @@
--- A line by its fields, written one after the other, and how long a field and a line can be.
+-- A line by its fields, written one after the other, and how long a field can be.
 -- Assumes nothing.
 use mathlib.Core.Path.{_≡_}
 use mathlib.Core.List.{List, [], _∷_, _++_, append-assoc}
@@ -54,10 +54,3 @@ module _ (at : ℕ) (out : List ℕ) {o₁ o₂ o₃ o₄ : List ℕ} {p₁ p₂
       → Put p₃ (fieldText p newline) o₃ o₄ p₄
       → Put at (outcomeText (refused n c p)) out o₄ p₄
   refused-put n c p fits f g h k = rw (refused-fields n c p) at (four at _ _ _ _ out fits f g h k)
-
-pub line-length : (c : ℕ) (l : Line) → c < 2 ^ 32 → l .cycles < 2 ^ 32 → l .peak < 2 ^ 32 → l .bytes < 2 ^ 32 → length (lineText c l) ≤ 44
-line-length c l hc hk hp hb =
-    simp length-append (omega (arith, decimal-short c hc, decimal-short (l .cycles) hk, decimal-short (l .peak) hp, decimal-short (l .bytes) hb))
-
-pub refused-length : (n c p : ℕ) → n < 2 ^ 32 → c < 2 ^ 64 → p < 2 ^ 64 → length (outcomeText (refused n c p)) ≤ 61
-refused-length n c p hn hc hp = simp length-append (omega (arith, decimal-short n hn, decimal-long c hc, decimal-long p hp))

@@ -172,6 +172,9 @@ pub fn loops() {
             YIELD,
         ],
     );
+}
+
+pub fn inner_loops() {
     walk(
         b"Break of an inner loop, then Break",
         &[

@@ -22,6 +22,7 @@ fn main() {
     blocks::breaks_outside();
     blocks::arms();
     blocks::loops();
+    blocks::inner_loops();
     blocks::two_chunks();
     extras::sums();
     extras::open_texts();

@@ -6,7 +6,7 @@ use Prim.Native.Nat.{ℕ, suc, _+_, _-_, _≤_}
 use lib.ListN.{length, getD, take, drop}
 use Rattle.rules.specs.Ops.{kind, fieldA, fieldB, between}
 use Rattle.rules.specs.Outcome.{Result, ok, no}
-use Rattle.rules.specs.Form.{Chunk, chunkWords}
+use Rattle.rules.specs.Form.{Chunk, ChunkFits, chunkWords}
 use Rattle.rules.specs.Reading.{takeWhile, read, constantsOf, extrasOf}
 use Rattle.words.specs.declared.parts.Parts.{Parts}
 
@@ -59,3 +59,10 @@ pub record PartsOf (ws : List ℕ) (p : Parts) (c : Chunk) : Type 0 where
   pub ops-next : p .ops ≤ p .extras
   pub extras-last : p .extras ≤ p .end
   pub within : p .end ≤ length ws
+
+-- the parts of a chunk that fits the form, in words within the limit: what the walks of one chunk ask for
+pub record PartsFit (ws : List ℕ) (p : Parts) : Type 0 where
+  pub chunk : Chunk
+  pub parts : PartsOf ws p chunk
+  pub fits : ChunkFits chunk
+  pub short : length ws ≤ 16384

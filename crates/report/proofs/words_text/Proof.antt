@@ -1,5 +1,5 @@
 -- `words_text` prints the outcome of the module sheet: a refusal, or the heading and a line a chunk. Assumes nothing.
-use mathlib.Core.Path.{_≡_, sym, ap, _∙_}
+use mathlib.Core.Path.{sym, ap, _∙_}
 use Prim.Native.Nat.{_≤_}
 use native.Mathlib.Omega.{arith}
 use lib.ListN.{length}

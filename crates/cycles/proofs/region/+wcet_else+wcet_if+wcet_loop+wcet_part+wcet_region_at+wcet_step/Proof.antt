@@ -2,18 +2,16 @@
 -- Assumes nothing.
 use Prim.Native.Nat.{ℕ, _<_, _+_, _-_, _*_}
 use mathlib.Core.Path.{refl}
-use mathlib.Core.Logic.{inl, inr, ⊎-elim}
 use native.Mathlib.Omega.{arith}
 use borrow.Author.Needs.{needs}
-use borrow.Author.Tests.{eqb-true, eqb-false}
 use Rattle.cycles.specs.Answers.{breaksOf, chunkOf}
 use Rattle.cycles.proofs.CycleLaws.{part-some}
 use Rattle.cycles.proofs.StepLaws.{Rest, rest-fits, rest-end, rest-forward, rest-goes, rest-ends, rest-refused}
 use Rattle.cycles.proofs.StepLaws.{if-within, if-arm, if-refused, if-open, if-goes}
 use Rattle.cycles.proofs.StepLaws.{else-within, then-arm, else-arm, else-refused, else-refused-second, else-joins}
-use Rattle.cycles.proofs.StepLaws.{loop-within, loop-body, loop-refused, loop-once, loop-uncounted, loop-open, loop-goes}
+use Rattle.cycles.proofs.StepLaws.{loop-within, loop-body, loop-refused, loop-once, loop-passes}
 use Rattle.cycles.proofs.StepLaws.{if-reach, loop-reach, if-fits, else-fits, loop-fits}
-use Rattle.cycles.proofs.StepLaws.{Charged, step-open, step-charged, step-if, step-else, step-loop, step-ends, step-break, step-break-if, step-plain}
+use Rattle.cycles.proofs.StepLaws.{Charged, step-open, step-charged, step-if, step-else, step-loop, step-passed}
 use borrow.Fn.Kinds.{In, Out}
 use borrow.Fn.PlainCycle.{Measures, is, falls, and}
 use Rattle.cycles.proofs.region.wcet_else.Reads as wcet-else
@@ -34,15 +32,12 @@ use Rattle.cycles.proofs.region.+wcet_else+wcet_if+wcet_loop+wcet_part+
 use Rattle.cycles.proofs.region.wcet_step.Reads as wcet-step
 use Rattle.cycles.proofs.region.wcet_step.Kinds as wcet-step-kinds
 use Rattle.cycles.proofs.region.+wcet_else+wcet_if+wcet_loop+wcet_part+wcet_region_at+wcet_step.Lts-wcet_step as wcet-step-lts
-use Rattle.count.proofs.bound.extract_loop_iteration_bound.Reads as extract-loop-iteration-bound-reads
 use Rattle.cycles.proofs.charge.op_wcet_cycles.Reads as op-wcet-cycles-reads
-use Rattle.cycles.proofs.region.ended.Reads as ended-reads
+use Rattle.cycles.proofs.region.all_passes.Reads as all-passes-reads
 use Rattle.cycles.proofs.region.join_arms.Reads as join-arms-reads
 use Rattle.cycles.proofs.region.one_pass.Reads as one-pass-reads
-use Rattle.cycles.proofs.sums.break_cost.Reads as break-cost-reads
+use Rattle.cycles.proofs.region.pass_op.Reads as pass-op-reads
 use Rattle.cycles.proofs.sums.cap_add.Reads as cap-add-reads
-use Rattle.cycles.proofs.sums.cap_mul.Reads as cap-mul-reads
-use Rattle.cycles.proofs.sums.note_break.Reads as note-break-reads
 use Rattle.cycles.proofs.region.+wcet_else+wcet_if+wcet_loop+wcet_part+wcet_region_at+wcet_step.{
   statement,
 }
@@ -117,35 +112,35 @@ wcet-else-calls t = (wcet-part-below t, wcet-part.Post, join-arms-reads.Asked, j
 abbrev wcet-else-need : (wcet-else-lts.Claims → In 3 wcet-else-kinds.ps → Out 3 wcet-else-kinds.ps wcet-else-kinds.r → Type 0) → Type 0
 wcet-else-need N = (t : ℕ) → N (wcet-else-calls t) (wcet-else-at t) wcet-else.Post
 
--- src/region.rt:203:14
+-- src/region.rt:211:14
 wcet-else-mul-f : wcet-else-need wcet-else-lts.Need-mul-f
 wcet-else-mul-f t c = omega arith
 
--- src/region.rt:203:14
+-- src/region.rt:211:14
 wcet-else-shared-slice-read-f : wcet-else-need wcet-else-lts.Need-shared-slice-read-f
 wcet-else-shared-slice-read-f t c = omega (arith, else-within (c .before .before .before .before .pre .1))
 
--- src/region.rt:203:13
+-- src/region.rt:211:13
 wcet-else-cast-f : wcet-else-need wcet-else-lts.Need-cast-f
 wcet-else-cast-f t c = omega arith
 
--- src/region.rt:204:51
+-- src/region.rt:212:51
 wcet-else-add-wcet-part : wcet-else-need wcet-else-lts.Need-add-wcet-part
 wcet-else-add-wcet-part t c = omega arith
 
--- src/region.rt:204:9
+-- src/region.rt:212:9
 wcet-else-wcet-part-requires : wcet-else-need wcet-else-lts.Need-wcet-part-requires
 wcet-else-wcet-part-requires t c κs = (omega arith, then-arm (c .before .before .before .before .pre .1))
 
--- src/region.rt:206:20
+-- src/region.rt:214:20
 wcet-else-enum-known-first : wcet-else-need wcet-else-lts.Need-enum-known-first
 wcet-else-enum-known-first t c = search needs
 
--- src/region.rt:207:25
+-- src/region.rt:215:25
 wcet-else-enum-known-first-2 : wcet-else-need wcet-else-lts.Need-enum-known-first-2
 wcet-else-enum-known-first-2 t c = search needs
 
--- src/region.rt:208:13
+-- src/region.rt:216:13
 wcet-else-returns : wcet-else-need wcet-else-lts.Need-returns
 wcet-else-returns t c =
     let f = c .before in
@@ -153,25 +148,25 @@ wcet-else-returns t c =
     let s = w .before .before .before .before .before in
     else-refused (s .pre .1) (s .args .left) (s .args .cost) (s .args .breaks) _ (w .wcet-part .ensures) (f .first2 .given .1)
 
--- src/region.rt:212:52
+-- src/region.rt:220:52
 wcet-else-add-wcet-part-2 : wcet-else-need wcet-else-lts.Need-add-wcet-part-2
 wcet-else-add-wcet-part-2 t c = omega arith
 
--- src/region.rt:212:9
+-- src/region.rt:220:9
 wcet-else-wcet-part-requires-2 : wcet-else-need wcet-else-lts.Need-wcet-part-requires-2
 wcet-else-wcet-part-requires-2 t c κs =
     let w = c .before .before .before .before in
     (omega arith, else-arm (w .before .before .before .before .before .pre .1))
 
--- src/region.rt:214:20
+-- src/region.rt:222:20
 wcet-else-enum-known-second : wcet-else-need wcet-else-lts.Need-enum-known-second
 wcet-else-enum-known-second t c = search needs
 
--- src/region.rt:215:25
+-- src/region.rt:223:25
 wcet-else-enum-known-second-2 : wcet-else-need wcet-else-lts.Need-enum-known-second-2
 wcet-else-enum-known-second-2 t c = search needs
 
--- src/region.rt:216:13
+-- src/region.rt:224:13
 wcet-else-returns-2 : wcet-else-need wcet-else-lts.Need-returns-2
 wcet-else-returns-2 t c =
     let f = c .before in
@@ -182,13 +177,13 @@ wcet-else-returns-2 t c =
     else-refused-second (s .pre .1) (s .args .left) (s .args .cost) (s .args .breaks) _ (w .wcet-part .ensures) _ (g .first .given .1)
     _ (v .wcet-part2 .ensures) (f .second2 .given .1)
 
--- src/region.rt:219:5
+-- src/region.rt:227:5
 wcet-else-join-arms-requires : wcet-else-need wcet-else-lts.Need-join-arms-requires
 wcet-else-join-arms-requires t c κs =
     let w = c .before .before .before .before .before .before .before .before in
     omega (arith, else-within (w .before .before .before .before .before .pre .1))
 
--- src/region.rt:189:1
+-- src/region.rt:197:1
 wcet-else-returns-3 : wcet-else-need wcet-else-lts.Need-returns-3
 wcet-else-returns-3 t c =
     let f = c .before .before in
@@ -206,23 +201,23 @@ wcet-if-calls t = (wcet-part-below t, wcet-part.Post, op-wcet-cycles-reads.Asked
 abbrev wcet-if-need : (wcet-if-lts.Claims → In 3 wcet-if-kinds.ps → Out 3 wcet-if-kinds.ps wcet-if-kinds.r → Type 0) → Type 0
 wcet-if-need N = (t : ℕ) → N (wcet-if-calls t) (wcet-if-at t) wcet-if.Post
 
--- src/region.rt:170:50
+-- src/region.rt:178:50
 wcet-if-add-wcet-part : wcet-if-need wcet-if-lts.Need-add-wcet-part
 wcet-if-add-wcet-part t c = omega arith
 
--- src/region.rt:170:9
+-- src/region.rt:178:9
 wcet-if-wcet-part-requires : wcet-if-need wcet-if-lts.Need-wcet-part-requires
 wcet-if-wcet-part-requires t c κs = (omega arith, if-arm (c .before .before .before .pre .1))
 
--- src/region.rt:172:20
+-- src/region.rt:180:20
 wcet-if-enum-known-part : wcet-if-need wcet-if-lts.Need-enum-known-part
 wcet-if-enum-known-part t c = search needs
 
--- src/region.rt:173:25
+-- src/region.rt:181:25
 wcet-if-enum-known-part-2 : wcet-if-need wcet-if-lts.Need-enum-known-part-2
 wcet-if-enum-known-part-2 t c = search needs
 
--- src/region.rt:174:13
+-- src/region.rt:182:13
 wcet-if-returns : wcet-if-need wcet-if-lts.Need-returns
 wcet-if-returns t c =
     let f = c .before in
@@ -230,19 +225,19 @@ wcet-if-returns t c =
     let s = w .before .before .before .before in
     if-refused (s .pre .1) (s .args .left) (s .args .cost) (s .args .breaks) _ (w .wcet-part .ensures) (f .part2 .given .1)
 
--- src/region.rt:177:9
+-- src/region.rt:185:9
 wcet-if-op-wcet-cycles-requires : wcet-if-need wcet-if-lts.Need-op-wcet-cycles-requires
 wcet-if-op-wcet-cycles-requires t c κs = omega (arith, if-within (c .before .before .before .before .before .before .before .pre .1))
 
--- src/region.rt:178:20
+-- src/region.rt:186:20
 wcet-if-enum-known-charge : wcet-if-need wcet-if-lts.Need-enum-known-charge
 wcet-if-enum-known-charge t c = search needs
 
--- src/region.rt:179:9
+-- src/region.rt:187:9
 wcet-if-enum-told : wcet-if-need wcet-if-lts.Need-enum-told
 wcet-if-enum-told t c = search needs
 
--- src/region.rt:179:9
+-- src/region.rt:187:9
 wcet-if-returns-2 : wcet-if-need wcet-if-lts.Need-returns-2
 wcet-if-returns-2 t c =
     let o = c .before .before in
@@ -252,19 +247,19 @@ wcet-if-returns-2 t c =
     if-open (s .pre .1) (s .args .left) (s .args .cost) (s .args .breaks) _ (w .wcet-part .ensures) _ (f .part .given .1)
     _ (o .op-wcet-cycles .ensures) (c .enum-told .given .1)
 
--- src/region.rt:185:16
+-- src/region.rt:193:16
 wcet-if-add-t18 : wcet-if-need wcet-if-lts.Need-add-t18
 wcet-if-add-t18 t c = omega arith
 
--- src/region.rt:185:31
+-- src/region.rt:193:31
 wcet-if-cap-add-requires : wcet-if-need wcet-if-lts.Need-cap-add-requires
 wcet-if-cap-add-requires t c κs = tt
 
--- src/region.rt:185:23
+-- src/region.rt:193:23
 wcet-if-cap-add-requires-2 : wcet-if-need wcet-if-lts.Need-cap-add-requires-2
 wcet-if-cap-add-requires-2 t c κs = tt
 
--- src/region.rt:156:1
+-- src/region.rt:164:1
 wcet-if-returns-3 : wcet-if-need wcet-if-lts.Need-returns-3
 wcet-if-returns-3 t c =
     let k = c .before .before .before .before in
@@ -277,28 +272,28 @@ wcet-if-returns-3 t c =
 
 -- what the callees of `wcet-loop` ask and give, and what a need of it is
 abbrev wcet-loop-calls : ℕ → wcet-loop-lts.Claims
-wcet-loop-calls t = (wcet-part-below t, wcet-part.Post, one-pass-reads.Asked, one-pass-reads.Learnt, extract-loop-iteration-bound-reads.Asked, extract-loop-iteration-bound-reads.Learnt, op-wcet-cycles-reads.Asked, op-wcet-cycles-reads.Learnt, cap-add-reads.Asked, cap-add-reads.Learnt, cap-mul-reads.Asked, cap-mul-reads.Learnt, break-cost-reads.Asked, break-cost-reads.Learnt)
+wcet-loop-calls t = (wcet-part-below t, wcet-part.Post, one-pass-reads.Asked, one-pass-reads.Learnt, all-passes-reads.Asked, all-passes-reads.Learnt)
 
 abbrev wcet-loop-need : (wcet-loop-lts.Claims → In 3 wcet-loop-kinds.ps → Out 3 wcet-loop-kinds.ps wcet-loop-kinds.r → Type 0) → Type 0
 wcet-loop-need N = (t : ℕ) → N (wcet-loop-calls t) (wcet-loop-at t) wcet-loop.Post
 
--- src/region.rt:282:50
+-- src/region.rt:290:50
 wcet-loop-add-wcet-part : wcet-loop-need wcet-loop-lts.Need-add-wcet-part
 wcet-loop-add-wcet-part t c = omega arith
 
--- src/region.rt:282:9
+-- src/region.rt:290:9
 wcet-loop-wcet-part-requires : wcet-loop-need wcet-loop-lts.Need-wcet-part-requires
 wcet-loop-wcet-part-requires t c κs = (omega arith, loop-body (c .before .before .before .pre .1))
 
--- src/region.rt:284:20
+-- src/region.rt:292:20
 wcet-loop-enum-known-part : wcet-loop-need wcet-loop-lts.Need-enum-known-part
 wcet-loop-enum-known-part t c = search needs
 
--- src/region.rt:285:25
+-- src/region.rt:293:25
 wcet-loop-enum-known-part-2 : wcet-loop-need wcet-loop-lts.Need-enum-known-part-2
 wcet-loop-enum-known-part-2 t c = search needs
 
--- src/region.rt:286:13
+-- src/region.rt:294:13
 wcet-loop-returns : wcet-loop-need wcet-loop-lts.Need-returns
 wcet-loop-returns t c =
     let f = c .before in
@@ -306,13 +301,13 @@ wcet-loop-returns t c =
     let s = w .before .before .before .before in
     loop-refused (s .pre .1) (s .args .left) (s .args .cost) (s .args .breaks) _ (w .wcet-part .ensures) (f .part2 .given .1)
 
--- src/region.rt:290:9
+-- src/region.rt:298:9
 wcet-loop-one-pass-requires : wcet-loop-need wcet-loop-lts.Need-one-pass-requires
 wcet-loop-one-pass-requires t c κs =
     let w = c .before .before .before .before in
     omega (arith, loop-within (w .before .before .before .before .pre .1))
 
--- src/region.rt:290:9
+-- src/region.rt:298:9
 wcet-loop-returns-2 : wcet-loop-need wcet-loop-lts.Need-returns-2
 wcet-loop-returns-2 t c =
     let d = c .before in
@@ -321,95 +316,20 @@ wcet-loop-returns-2 t c =
     let s = w .before .before .before .before in
     loop-once (s .pre .1) (s .args .left) (s .args .cost) (s .args .breaks) _ (w .wcet-part .ensures) _ (f .part .given .1) (d .if1 .taken) _ (c .one-pass .ensures)
 
--- src/region.rt:292:9
-wcet-loop-extract-loop-iteration-bound-requires : wcet-loop-need wcet-loop-lts.Need-extract-loop-iteration-bound-requires
-wcet-loop-extract-loop-iteration-bound-requires t c κs = omega arith
-
--- src/region.rt:293:22
-wcet-loop-enum-known-bound : wcet-loop-need wcet-loop-lts.Need-enum-known-bound
-wcet-loop-enum-known-bound t c = search needs
-
--- src/region.rt:294:9
-wcet-loop-enum-told : wcet-loop-need wcet-loop-lts.Need-enum-told
-wcet-loop-enum-told t c = search needs
-
--- src/region.rt:294:9
-wcet-loop-returns-3 : wcet-loop-need wcet-loop-lts.Need-returns-3
-wcet-loop-returns-3 t c =
-    let n = c .before .before in
-    let d = n .before in
-    let f = d .before .before in
-    let w = f .before .before in
-    let s = w .before .before .before .before in
-    loop-uncounted (s .pre .1) (s .args .left) (s .args .cost) (s .args .breaks) _ (w .wcet-part .ensures) _ (f .part .given .1) (d .if1 .left) _
-    (n .extract-loop-iteration-bound .ensures) (c .enum-told .given .1)
-
--- src/region.rt:299:9
-wcet-loop-op-wcet-cycles-requires : wcet-loop-need wcet-loop-lts.Need-op-wcet-cycles-requires
-wcet-loop-op-wcet-cycles-requires t c κs =
-    let w = c .before .before .before .before .before .before .before .before in
+-- src/region.rt:300:5
+wcet-loop-all-passes-requires : wcet-loop-need wcet-loop-lts.Need-all-passes-requires
+wcet-loop-all-passes-requires t c κs =
+    let w = c .before .before .before .before in
     omega (arith, loop-within (w .before .before .before .before .pre .1))
 
--- src/region.rt:300:20
-wcet-loop-enum-known-charge : wcet-loop-need wcet-loop-lts.Need-enum-known-charge
-wcet-loop-enum-known-charge t c = search needs
-
--- src/region.rt:301:9
-wcet-loop-enum-told-2 : wcet-loop-need wcet-loop-lts.Need-enum-told-2
-wcet-loop-enum-told-2 t c = search needs
-
--- src/region.rt:301:9
-wcet-loop-returns-4 : wcet-loop-need wcet-loop-lts.Need-returns-4
-wcet-loop-returns-4 t c =
-    let o = c .before .before in
-    let b = o .before .before in
-    let n = b .before .before in
-    let d = n .before in
+-- src/region.rt:272:1
+wcet-loop-returns-3 : wcet-loop-need wcet-loop-lts.Need-returns-3
+wcet-loop-returns-3 t c =
+    let d = c .before in
     let f = d .before .before in
     let w = f .before .before in
     let s = w .before .before .before .before in
-    loop-open (s .pre .1) (s .args .left) (s .args .cost) (s .args .breaks) _ (w .wcet-part .ensures) _ (f .part .given .1) (d .if1 .left) _
-    (n .extract-loop-iteration-bound .ensures) (b .bound .given .1) _ (o .op-wcet-cycles .ensures) (c .enum-told2 .given .1)
-
--- src/region.rt:307:26
-wcet-loop-cap-add-requires : wcet-loop-need wcet-loop-lts.Need-cap-add-requires
-wcet-loop-cap-add-requires t c κs = tt
-
--- src/region.rt:307:9
-wcet-loop-cap-mul-requires : wcet-loop-need wcet-loop-lts.Need-cap-mul-requires
-wcet-loop-cap-mul-requires t c κs = tt
-
--- src/region.rt:309:9
-wcet-loop-add-t22 : wcet-loop-need wcet-loop-lts.Need-add-t22
-wcet-loop-add-t22 t c = omega arith
-
--- src/region.rt:310:39
-wcet-loop-break-cost-requires : wcet-loop-need wcet-loop-lts.Need-break-cost-requires
-wcet-loop-break-cost-requires t c κs = tt
-
--- src/region.rt:310:23
-wcet-loop-cap-add-requires-2 : wcet-loop-need wcet-loop-lts.Need-cap-add-requires-2
-wcet-loop-cap-add-requires-2 t c κs = tt
-
--- src/region.rt:310:9
-wcet-loop-cap-add-requires-3 : wcet-loop-need wcet-loop-lts.Need-cap-add-requires-3
-wcet-loop-cap-add-requires-3 t c κs = tt
-
--- src/region.rt:264:1
-wcet-loop-returns-5 : wcet-loop-need wcet-loop-lts.Need-returns-5
-wcet-loop-returns-5 t c =
-    let m = c .before .before .before in
-    let k = m .before .before .before .before in
-    let o = k .before .before in
-    let b = o .before .before in
-    let n = b .before .before in
-    let d = n .before in
-    let f = d .before .before in
-    let w = f .before .before in
-    let s = w .before .before .before .before in
-    loop-goes (s .pre .1) (s .args .left) (s .args .cost) (s .args .breaks) _ (w .wcet-part .ensures) _ (f .part .given .1) (d .if1 .left) _
-    (n .extract-loop-iteration-bound .ensures) (b .bound .given .1) _ (o .op-wcet-cycles .ensures) (k .charge .given .1)
-    (m .before .cap-add .ensures) (m .cap-mul .ensures) (c .before .before .break-cost .ensures) (c .before .cap-add2 .ensures) (c .cap-add3 .ensures)
+    loop-passes (s .pre .1) (s .args .left) (s .args .cost) (s .args .breaks) _ (w .wcet-part .ensures) _ (f .part .given .1) (d .if1 .left) _ (c .all-passes .ensures)
 
 -- what the callees of `wcet-part` ask and give, and what a need of it is
 abbrev wcet-part-calls : ℕ → wcet-part-lts.Claims
@@ -418,19 +338,19 @@ wcet-part-calls t = (wcet-region-at-below t, wcet-region-at.Post)
 abbrev wcet-part-need : (wcet-part-lts.Claims → In 3 wcet-part-kinds.ps → Out 3 wcet-part-kinds.ps wcet-part-kinds.r → Type 0) → Type 0
 wcet-part-need N = (t : ℕ) → N (wcet-part-calls t) (wcet-part-at t) wcet-part.Post
 
--- src/region.rt:147:9
+-- src/region.rt:155:9
 wcet-part-returns : wcet-part-need wcet-part-lts.Need-returns
 wcet-part-returns t c = rw (c .if1 .taken)
 
--- src/region.rt:152:54
+-- src/region.rt:160:54
 wcet-part-sub-wcet-region-at : wcet-part-need wcet-part-lts.Need-sub-wcet-region-at
 wcet-part-sub-wcet-region-at t c = omega arith
 
--- src/region.rt:152:5
+-- src/region.rt:160:5
 wcet-part-wcet-region-at-requires : wcet-part-need wcet-part-lts.Need-wcet-region-at-requires
 wcet-part-wcet-region-at-requires t c κs = (omega arith, c .before .before .before .before .pre .1)
 
--- src/region.rt:134:1
+-- src/region.rt:142:1
 wcet-part-returns-2 : wcet-part-need wcet-part-lts.Need-returns-2
 wcet-part-returns-2 t c =
     let d = c .before in
@@ -505,7 +425,7 @@ wcet-region-at-returns-3 t c = rest-end (c .before .loop .inv) (c .loop-test .le
 
 -- what the callees of `wcet-step` ask and give, and what a need of it is
 abbrev wcet-step-calls : ℕ → wcet-step-lts.Claims
-wcet-step-calls t = (op-wcet-cycles-reads.Asked, op-wcet-cycles-reads.Learnt, cap-add-reads.Asked, cap-add-reads.Learnt, wcet-else-below t, wcet-else.Post, wcet-if-below t, wcet-if.Post, wcet-loop-below t, wcet-loop.Post, ended-reads.Asked, ended-reads.Learnt, note-break-reads.Asked, note-break-reads.Learnt)
+wcet-step-calls t = (op-wcet-cycles-reads.Asked, op-wcet-cycles-reads.Learnt, cap-add-reads.Asked, cap-add-reads.Learnt, wcet-else-below t, wcet-else.Post, wcet-if-below t, wcet-if.Post, wcet-loop-below t, wcet-loop.Post, pass-op-reads.Asked, pass-op-reads.Learnt)
 
 abbrev wcet-step-need : (wcet-step-lts.Claims → In 3 wcet-step-kinds.ps → Out 3 wcet-step-kinds.ps wcet-step-kinds.r → Type 0) → Type 0
 wcet-step-need N = (t : ℕ) → N (wcet-step-calls t) (wcet-step-at t) wcet-step.Post
@@ -611,61 +531,16 @@ wcet-step-returns-4 t c =
     let e = c .before in
     step-loop (wcet-step-charged t (e .before .before .before)) (c .wcet-loop .result) (e .if3 .taken) (c .wcet-loop .ensures)
 
--- src/region.rt:122:9
-wcet-step-ended-requires : wcet-step-need wcet-step-lts.Need-ended-requires
-wcet-step-ended-requires t c κs = tt
-
--- src/region.rt:122:9
-wcet-step-returns-5 : wcet-step-need wcet-step-lts.Need-returns-5
-wcet-step-returns-5 t c =
-    let j = c .before in
-    let k = ⊎-elim (λ w. inl (w .taken)) (λ w. inr (eqb-true _ 50 (w .1 .taken))) (j .if4 .came) in
-    rw (c .ended .ensures) (step-ends (wcet-step-charged t (j .before .before .before .before)) k)
-
--- src/region.rt:125:28
-wcet-step-note-break-requires : wcet-step-need wcet-step-lts.Need-note-break-requires
-wcet-step-note-break-requires t c κs = tt
-
--- src/region.rt:125:9
-wcet-step-ended-requires-2 : wcet-step-need wcet-step-lts.Need-ended-requires-2
-wcet-step-ended-requires-2 t c κs = tt
-
--- src/region.rt:125:9
-wcet-step-returns-6 : wcet-step-need wcet-step-lts.Need-returns-6
-wcet-step-returns-6 t c =
-    let n = c .before in
-    let b = n .before in
-    let a = b .before .before .before .before .before .before in
-    rw (c .ended2 .ensures) (step-break (wcet-step-charged t a) (n .note-break .result) (n .note-break .ensures) (b .if6 .taken))
-
--- src/region.rt:128:27
-wcet-step-add-t30 : wcet-step-need wcet-step-lts.Need-add-t30
-wcet-step-add-t30 t c = omega arith
-
--- src/region.rt:128:40
-wcet-step-note-break-requires-2 : wcet-step-need wcet-step-lts.Need-note-break-requires-2
-wcet-step-note-break-requires-2 t c κs = tt
-
--- src/region.rt:128:9
-wcet-step-returns-7 : wcet-step-need wcet-step-lts.Need-returns-7
-wcet-step-returns-7 t c =
-    let b = c .before in
-    let a = b .before .before .before .before .before .before .before in
-    step-break-if (wcet-step-charged t a) (c .note-break2 .result) (c .note-break2 .ensures) (b .if7 .taken)
-
--- src/region.rt:130:16
-wcet-step-add-t15 : wcet-step-need wcet-step-lts.Need-add-t15
-wcet-step-add-t15 t c = omega arith
+-- src/region.rt:121:5
+wcet-step-pass-op-requires : wcet-step-need wcet-step-lts.Need-pass-op-requires
+wcet-step-pass-op-requires t c κs = omega arith
 
 -- src/region.rt:88:1
-wcet-step-returns-8 : wcet-step-need wcet-step-lts.Need-returns-8
-wcet-step-returns-8 t c =
-    let b = c .before in
-    let f = b .before in
-    let e = f .before in
-    let l = e .before in
+wcet-step-returns-5 : wcet-step-need wcet-step-lts.Need-returns-5
+wcet-step-returns-5 t c =
+    let l = c .before in
     let i = l .before in
-    step-plain (wcet-step-charged t (i .before .before)) (i .if1 .left) (l .if3 .left) (b .if6 .left) (c .if7 .left) (e .if4 .left) (eqb-false _ 50 (f .if5 .left))
+    step-passed (wcet-step-charged t (i .before .before)) (i .if1 .left) (l .if3 .left) (c .pass-op .ensures)
 
 pub +wcet-else+wcet-if+wcet-loop+wcet-part+wcet-region-at+wcet-step-spec :
     {M : Type 1} → statement M
@@ -684,10 +559,7 @@ pub +wcet-else+wcet-if+wcet-loop+wcet-part+wcet-region-at+wcet-step-spec :
     (λ t. wcet-loop-lts.spec (wcet-loop-calls t)
     (wcet-loop-at t) wcet-loop.Post (wcet-loop-add-wcet-part t) (wcet-loop-wcet-part-requires t) (wcet-loop-enum-known-part t)
     (wcet-loop-enum-known-part-2 t) (wcet-loop-returns t) (wcet-loop-one-pass-requires t) (wcet-loop-returns-2 t)
-    (wcet-loop-extract-loop-iteration-bound-requires t) (wcet-loop-enum-known-bound t) (wcet-loop-enum-told t) (wcet-loop-returns-3 t)
-    (wcet-loop-op-wcet-cycles-requires t) (wcet-loop-enum-known-charge t) (wcet-loop-enum-told-2 t) (wcet-loop-returns-4 t)
-    (wcet-loop-cap-add-requires t) (wcet-loop-cap-mul-requires t) (wcet-loop-add-t22 t) (wcet-loop-break-cost-requires t)
-    (wcet-loop-cap-add-requires-2 t) (wcet-loop-cap-add-requires-3 t) (wcet-loop-returns-5 t))
+    (wcet-loop-all-passes-requires t) (wcet-loop-returns-3 t))
     (λ t. wcet-part-lts.spec
     (wcet-part-calls t) (wcet-part-at t) wcet-part.Post (wcet-part-returns t) (wcet-part-sub-wcet-region-at t) (wcet-part-wcet-region-at-requires t)
     (wcet-part-returns-2 t))
@@ -701,6 +573,4 @@ pub +wcet-else+wcet-if+wcet-loop+wcet-part+wcet-region-at+wcet-step-spec :
     (wcet-step-returns t) (wcet-step-cap-add-requires t) (wcet-step-mul-w t) (wcet-step-shared-slice-read-w t) (wcet-step-cast-t t)
     (wcet-step-sub-if2 t) (wcet-step-mul-if2 t) (wcet-step-shared-slice-read-if2 t) (wcet-step-sub-wcet-else t) (wcet-step-wcet-else-requires t)
     (wcet-step-returns-2 t) (wcet-step-wcet-if-requires t) (wcet-step-returns-3 t) (wcet-step-sub-wcet-loop t) (wcet-step-wcet-loop-requires t)
-    (wcet-step-returns-4 t) (wcet-step-ended-requires t) (wcet-step-returns-5 t) (wcet-step-note-break-requires t) (wcet-step-ended-requires-2 t)
-    (wcet-step-returns-6 t) (wcet-step-add-t30 t) (wcet-step-note-break-requires-2 t) (wcet-step-returns-7 t) (wcet-step-add-t15 t)
-    (wcet-step-returns-8 t)
+    (wcet-step-returns-4 t) (wcet-step-pass-op-requires t) (wcet-step-returns-5 t)

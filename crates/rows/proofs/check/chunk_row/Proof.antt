@@ -6,34 +6,34 @@ use Rattle.rows.proofs.RangeLaws.{no-range, range-inside, target-backwa
 use Rattle.rows.proofs.check.chunk_row.Statement.{statement}
 use Rattle.rows.proofs.check.chunk_row.Tie as tie
 
--- src/check.rt:155:9
+-- src/check.rt:154:9
 range-of-requires : tie.Need-range-of-requires
 range-of-requires c κs = search needs
 
--- src/check.rt:157:30
+-- src/check.rt:156:30
 enum-known-found : tie.Need-enum-known-found
 enum-known-found c = search needs
 
--- src/check.rt:158:13
+-- src/check.rt:157:13
 returns : tie.Need-returns
 returns c =
     let r = c .before .before .before in
     let a = r .before .before .args in
     no-range (a .mode) (a .ops .now) _ (rw (c .before .found .given .1) at (r .range-of .ensures))
 
--- src/check.rt:160:25
+-- src/check.rt:159:25
 enum-known-found-2 : tie.Need-enum-known-found-2
 enum-known-found-2 c = search needs
 
--- src/check.rt:162:9
+-- src/check.rt:161:9
 check-forward-control-flow-targets-requires : tie.Need-check-forward-control-flow-targets-requires
 check-forward-control-flow-targets-requires c κs = search needs
 
--- src/check.rt:163:22
+-- src/check.rt:162:22
 enum-known-backward : tie.Need-enum-known-backward
 enum-known-backward c = search needs
 
--- src/check.rt:164:9
+-- src/check.rt:163:9
 returns-2 : tie.Need-returns-2
 returns-2 c =
     let f = c .before .before .before in
@@ -45,7 +45,7 @@ returns-2 c =
 enum-told : tie.Need-enum-told
 enum-told c = search needs
 
--- src/check.rt:166:9
+-- src/check.rt:165:9
 is-row-requires : tie.Need-is-row-requires
 is-row-requires c κs =
     let n = c .before .before .before .before in
@@ -54,7 +54,7 @@ is-row-requires c κs =
     let h = range-inside (s .args .mode) (s .args .ops .now) _ (rw (n .found2 .given .1) at (r .range-of .ensures)) in
     (h .0, h .1, s .pre)
 
--- src/check.rt:167:9
+-- src/check.rt:166:9
 returns-3 : tie.Need-returns-3
 returns-3 c =
     let f = c .before .before .before .before in
@@ -65,7 +65,7 @@ returns-3 c =
     (rw (c .before .before .enum-told .given .1) at (f .check-forward-control-flow-targets .ensures)) false
     (rw (not-true (c .before .is-row .result) (c .if1 .taken)) at (c .before .is-row .ensures))
 
--- src/check.rt:151:1
+-- src/check.rt:150:1
 returns-4 : tie.Need-returns-4
 returns-4 c =
     let f = c .before .before .before .before in

@@ -40,7 +40,7 @@ slice-read-bound c = omega (arith, sizes (c .before .before .before .loop .inv))
 cast-bound : tie.Need-cast-bound Inv-loop μ-loop
 cast-bound c =
     let l = c .before .before .before .loop in
-    omega (arith, sizes (l .inv), bound-some (c .before .before .before .before .before .before .args .to) (l .ends) (l .depth) (c .before .if1 .left))
+    omega (arith, sizes (l .inv), bound-some (c .before .before .before .before .before .before .args .to) (l .ends) (l .depth) (c .before .if1 .taken))
 
 -- the bound is the end of the innermost block
 bound-is : (c : tie.Joined1 Inv-loop μ-loop) → let l = c .before .before .loop in
@@ -48,7 +48,7 @@ bound-is : (c : tie.Joined1 Inv-loop μ-loop) → let l = c .before .before .loo
 bound-is c =
     let l = c .before .before .loop in
     let to = c .before .before .before .before .before .args .to in
-    ⊎-elim (λ w. w .1 ∙ bound-none to (l .ends) (l .depth) (w .0 .taken)) (λ w. w .2 ∙ bound-some to (l .ends) (l .depth) (w .0 .left)) (c .if1 .came)
+    ⊎-elim (λ w. w .2 ∙ bound-some to (l .ends) (l .depth) (w .0 .taken)) (λ w. w .1 ∙ bound-none to (l .ends) (l .depth) (w .0 .left)) (c .if1 .came)
 
 opens-at-requires : tie.Need-opens-at-requires Inv-loop μ-loop
 opens-at-requires c κs = omega (arith, sizes (c .before .before .before .loop .inv), bound-is (c .before))

@@ -1,3 +1,4 @@
+-- `head_of` goes from head to head: after i chunks it stands at the head of chunk i. Assumes nothing.
 use Prim.Native.Nat.{_≤_, _-_}
 use mathlib.Core.Path.{_≡_, ap, _∙_}
 use native.Mathlib.Omega.{arith}
@@ -5,9 +6,6 @@ use Rattle.words.specs.Parts.{chunksIn, headAt}
 use Rattle.words.proofs.PartLaws.{first-head, at-within, next-at}
 use Rattle.words.proofs.heads.head_of.Statement.{statement}
 use Rattle.words.proofs.heads.head_of.Tie as tie
-use Rattle.words.proofs.heads.head_of.Reads as reads
-use Rattle.words.proofs.heads.head_of.Lts as lts
-use Rattle.words.proofs.parts.parts_at.Reads as parts-at-reads
 
 abbrev Inv-loop : tie.InvT-loop
 Inv-loop words c at₀ i₀ at i = (i ≤ c) × (at ≡ headAt (chunksIn words) i)

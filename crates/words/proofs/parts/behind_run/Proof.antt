@@ -1,3 +1,5 @@
+-- `behind_run` passes words as long as their kinds are in the range: the run from the start is what was passed and the run from here.
+-- Assumes nothing.
 use Prim.Native.Nat.{_+_, _-_, _≤_, _<_}
 use mathlib.Core.Path.{_≡_}
 use mathlib.Core.Logic.{⊎-elim}
@@ -8,8 +10,6 @@ use Rattle.words.specs.Parts.{runOf}
 use Rattle.words.proofs.RunLaws.{run-more, run-below, run-above, run-end}
 use Rattle.words.proofs.parts.behind_run.Statement.{statement}
 use Rattle.words.proofs.parts.behind_run.Tie as tie
-use Rattle.words.proofs.parts.behind_run.Reads as reads
-use Rattle.words.proofs.parts.behind_run.Lts as lts
 
 abbrev Inv-loop : tie.InvT-loop
 Inv-loop words from low high i₀ i =

@@ -1,0 +1,75 @@
+-- `chunk_cycles` answers the cost of the chunk with these parts, or the first of refusals 3 to 9.
+-- Assumes nothing.
+use mathlib.Core.Path.{_≡_, sym, ap, _∙_}
+use borrow.Author.Needs.{needs}
+use Rattle.rules.specs.Outcome.{ok}
+use Rattle.rows.specs.Answers.{rangeIs, rowResult, rangeRow}
+use Rattle.rows.proofs.PartRows.{ops-short}
+use Rattle.cycles.proofs.EntryLaws.{row-fits, row-told, range-told}
+use Rattle.cycles.proofs.entry.chunk_cycles.Statement.{statement}
+use Rattle.cycles.proofs.entry.chunk_cycles.Tie as tie
+
+-- what the row check answered
+row-is : (c : tie.After-known-told) → let r = c .before .before .before in
+    ok (rangeIs (c .before .row .given .0 .0)) ≡ rangeRow (r .before .before .before .args .p .mode) (r .before .ops-of .result .now)
+row-is c = sym (ap rowResult (c .before .row .given .1)) ∙ c .before .before .before .chunk-row .ensures
+
+-- src/entry.rt:51:9
+ops-of-requires : tie.Need-ops-of-requires
+ops-of-requires c κs = search needs
+
+-- src/entry.rt:52:9
+chunk-row-requires : tie.Need-chunk-row-requires
+chunk-row-requires c κs = let f = c .before .before .pre in ops-short (f .parts) (f .short) (c .ops-of .ensures)
+
+-- src/entry.rt:54:23
+enum-known-row : tie.Need-enum-known-row
+enum-known-row c = search needs
+
+-- src/entry.rt:55:30
+enum-known-row-2 : tie.Need-enum-known-row-2
+enum-known-row-2 c = search needs
+
+-- src/entry.rt:56:13
+returns : tie.Need-returns
+returns c k parts =
+    let r = c .before .before .before in
+    let o = r .before in
+    row-told (o .before .before .pre .short) (o .ops-of .ensures) k parts _ _ (sym (ap rowResult (c .before .row2 .given .1)) ∙ r .chunk-row .ensures)
+
+-- src/entry.rt:60:9
+constants-of-requires : tie.Need-constants-of-requires
+constants-of-requires c κs = search needs
+
+-- src/entry.rt:62:9
+extras-of-requires : tie.Need-extras-of-requires
+extras-of-requires c κs = search needs
+
+-- src/entry.rt:59:5
+wcet-region-requires : tie.Need-wcet-region-requires
+wcet-region-requires c κs =
+    let o = c .before .before .before .before .before .before in
+    let f = o .before .before .pre in
+    row-fits (f .parts) (f .short) (o .ops-of .ensures) (row-is (c .before .before)) _ _
+
+-- src/entry.rt:47:1
+returns-2 : tie.Need-returns-2
+returns-2 c k parts =
+    let e = c .before in
+    let m = e .before in
+    let o = m .before .before .before .before .before in
+    range-told (o .before .before .pre .short) (o .ops-of .ensures) k parts (m .constants-of .ensures) (e .extras-of .ensures) _ (row-is (m .before)) (c .wcet-region .ensures)
+
+pub chunk-cycles-spec : {M : Type 1} → statement M
+chunk-cycles-spec =
+    tie.close
+    (tie.spec
+    ops-of-requires
+    chunk-row-requires
+    enum-known-row
+    enum-known-row-2
+    returns
+    constants-of-requires
+    extras-of-requires
+    wcet-region-requires
+    returns-2)
