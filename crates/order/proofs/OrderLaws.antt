@@ -1,18 +1,20 @@
 -- The search over all chunks from 0 up: the visits of the chunks from c on give the whole.
 -- Assumes nothing.
 use mathlib.Core.Path.{_≡_, refl, ap, _∙_}
+use mathlib.Core.Bool.{true, false}
 use mathlib.Core.List.{List, []}
 use Prim.Native.Nat.{ℕ, suc, _+_, _-_, _<_, _≤_}
 use native.Mathlib.Numerals.{add-one}
 use native.Mathlib.Omega.{arith}
 use borrow.Author.Tests.{lt-ltb}
-use lib.ListN.{length}
+use lib.ListN.{length, getD}
 use Rattle.rules.specs.Order.{Listing, onListed, visitEach, visit, upFrom, callOrder}
 use Rattle.words.specs.Parts.{chunksIn}
 use Rattle.order.specs.declared.visit.Search.{Search}
-use Rattle.order.specs.Search.{Readable, Shows, Shown}
+use Rattle.order.specs.Search.{Readable, Searchable, Shows, Shown}
 use Rattle.order.proofs.MarkLaws.{told-listed, told-ring}
 use Rattle.order.proofs.ScanLaws.{Visited}
+use Rattle.order.proofs.VisitLaws.{few-chunks, visited-listed}
 
 -- the visits of the chunks from c on
 abbrev visits : List ℕ → ℕ → ℕ → List ℕ → Listing
@@ -48,6 +50,11 @@ module _ {ws : List ℕ} {n c : ℕ} {s : Search} (w : Walk ws n c s) where
     walk-ring met =
         let v = told-ring n r [] (visit (chunksIn ws) (n + 1) [] c (w .done)) met (visited [] (w .done) (w .shows)) in
         rw (w .gives ∙ visits-next ws n c (w .done) more, v .1) (refl, v .0)
+
+  -- a chunk that is listed already
+  pub walk-past : {ops extras : List ℕ} → Searchable ws ops extras n c s → getD (s .seen) c false ≡ true → Walk ws n (c + 1) s
+  walk-past p e =
+      walk-on s (p .chunk) (visited-listed p (n + 1) (λ z. omega arith) e) (few-chunks (p .places .words)) (omega (arith, w .shows .no-ring))
 
   pub walk-end : n ≤ c → Shown s n [] (callOrder (chunksIn ws))
   unfolding visitEach upFrom

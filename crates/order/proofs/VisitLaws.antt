@@ -3,20 +3,21 @@
 use mathlib.Core.Path.{_≡_, refl, sym, _∙_}
 use mathlib.Core.Bool.{true, false}
 use mathlib.Core.List.{List, [], _∷_, _++_}
-use Prim.Native.Nat.{ℕ, zero, suc, _-_, _<_, _≤_}
+use Prim.Native.Nat.{ℕ, zero, suc, _+_, _-_, _<_, _≤_}
 use native.Mathlib.Numerals.{sub-one}
 use native.Mathlib.Omega.{arith}
 use lib.ListN.{length, getD}
 use Rattle.rules.specs.Ops.{kind, fieldA}
 use Rattle.rules.specs.Form.{Chunk}
 use Rattle.rules.specs.Order.{listed, ring, onListed, member, chunkAt, calleesOf, visitEach, visit}
+use Rattle.rules.proofs.Members.{none, apart}
 use Rattle.rules.proofs.ReadingAgrees.{read-words}
 use Rattle.words.specs.Parts.{partsAt, partOf, chunksIn, headAt, PartsOf}
 use Rattle.words.proofs.PartLaws.{chunk-parts}
 use Rattle.order.specs.declared.visit.Search.{Search}
 use Rattle.order.specs.Search.{Readable, Located, Searchable, Shows}
 use Rattle.order.proofs.MarkLaws.{opening, listing, has-room, shows-opening, shows-listing}
-use Rattle.order.proofs.ScanLaws.{Visited, scan, Rest, rest-ring, rest-end}
+use Rattle.order.proofs.ScanLaws.{Visited, scan, Rest, rest-visits, rest-ring, rest-end}
 
 -- what a visit comes to, by the number that is left and the marks
 module _ (cs : List Chunk) (opened : List ℕ) (c : ℕ) (done : List ℕ) where
@@ -67,9 +68,12 @@ module _ {ws ops extras : List ℕ} {n c : ℕ} {s : Search} (p : Searchable ws 
   pub visited-open : getD (s .active) c false ≡ true → Visited ws n left c s (ringed c s)
   visited-open e opened done h = rw (visit-open (chunksIn ws) opened c done left (sym (h .active c (p .chunk)) ∙ e)) (refl, p .chunk)
 
-  pub visited-listed : (left ≡ 0 → ⊥) → getD (s .active) c false ≡ false → getD (s .seen) c false ≡ true → Visited ws n left c s s
-  visited-listed some shut e opened done h =
-      rw (visit-listed (chunksIn ws) opened c done left some (sym (h .active c (p .chunk)) ∙ shut) (sym (h .seen c (p .chunk)) ∙ e)) h
+  -- a listed chunk is not open, so its visit leaves the state
+  pub visited-listed : (left ≡ 0 → ⊥) → getD (s .seen) c false ≡ true → Visited ws n left c s s
+  visited-listed some e opened done h =
+      let there : member c done ≡ true = sym (h .seen c (p .chunk)) ∙ e in
+      let shut = none c opened (λ i. apart c done (h .apart c i) there) in
+      rw (visit-listed (chunksIn ws) opened c done left some shut there) h
 
 -- what is known where the visit of chunk c is opened
 pub record Opens (ws ops extras : List ℕ) (n left c : ℕ) (s : Search) : Type 0 where
@@ -100,6 +104,12 @@ module _ {ws ops extras : List ℕ} {n left c : ℕ} {s : Search} (o : Opens ws 
     inside k lt =
         let p = o .asked in
         record { places = p .places; chunk = lt; opened = c ∷ p .opened; done = shown .0; shows = shown .1 }
+
+    -- a call of a chunk that is listed already
+    pub passes : i < end → kind (getD ws i 0) ≡ 30 → fieldA (getD ws i 0) < n → (left - 1 ≡ 0 → ⊥) → getD (t .seen) (fieldA (getD ws i 0)) false ≡ true
+        → Rest ws n (left - 1) c (opening c s) end i₀ (i + 1) t
+    passes more call lt some e =
+        rest-visits rest t more call lt (visited-listed (inside _ lt) (left - 1) some e) few (omega (arith, shown .1 .no-ring))
 
     pub room : t .count < 256
     room = has-room n c few t (o .asked .opened) (shown .0) (shown .1)

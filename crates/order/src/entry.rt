@@ -25,17 +25,19 @@ pub enum OrderAnswer {
     },
 }
 
-// The search over all n chunks from 0 up.
-pub fn call_order(words: &[u32], ops_at: &[usize], extras_at: &[usize], n: usize) -> Search
+// The search over all n chunks from 0 up: a chunk that is listed already is passed over.
+pub fn call_order(words: &[u32], ops_at: &[u16], extras_at: &[u16], n: usize) -> Search
     requires { ⌜ Located (now words) (now «ops_at») (now «extras_at») n ⌝ }
     ensures { λ r. ⌜ Shown r n [] (callOrder (chunksIn (now (words .entry)))) ⌝ }
 {
     let mut s = begun();
     let mut c = 0;
     while c < n {
-        s = topo_visit(words, ops_at, extras_at, n, c, s, n + 1);
-        if s.ring < 256 {
-            return s;
+        if !s.seen[c] {
+            s = topo_visit(words, ops_at, extras_at, n, c, s, n + 1);
+            if s.ring < 256 {
+                return s;
+            }
         }
         c += 1;
     }
@@ -82,13 +84,13 @@ pub fn topological_call_order(words: &[u32], tray: &mut [u32]) -> OrderAnswer
 }
 
 // The first n numbers of a list into the tray.
-fn fill_tray(order: &[u32], n: usize, tray: &mut [u32])
+fn fill_tray(order: &[u8], n: usize, tray: &mut [u32])
     requires { ⌜ (n ≤ length (now order)) × (n ≤ length (now tray)) ⌝ }
     ensures { λ r. ⌜ now (tray .exit) ≡ take n (now (order .entry)) ++ drop n (now (tray .entry)) ⌝ }
 {
     let mut i = 0;
     while i < n {
-        tray[i] = order[i];
+        tray[i] = order[i] as u32;
         i += 1;
     }
 }

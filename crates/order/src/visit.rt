@@ -11,7 +11,7 @@ ghost use Rattle.order.specs.Search.{Searchable, Shows, Shown};
 pub struct Search {
     pub seen: [bool; 256],
     pub active: [bool; 256],
-    pub order: [u32; 256],
+    pub order: [u8; 256],
     pub count: usize,
     pub ring: usize,
 }
@@ -30,11 +30,11 @@ pub fn begun() -> Search
 }
 
 // The visit of chunk c of n, whose ops stand from `ops_at` up to `extras_at`: its callees by position, then c itself. `left` falls with
-// each visit inside.
+// each visit inside. A callee that is listed already is passed over, but not where its visit would have no number left: that is a ring.
 pub fn topo_visit(
     words: &[u32],
-    ops_at: &[usize],
-    extras_at: &[usize],
+    ops_at: &[u16],
+    extras_at: &[u16],
     n: usize,
     c: usize,
     s: Search,
@@ -52,12 +52,12 @@ pub fn topo_visit(
         return t;
     }
     t.active[c] = true;
-    let end = extras_at[c];
-    let mut i = ops_at[c];
+    let end = extras_at[c] as usize;
+    let mut i = ops_at[c] as usize;
     while i < end {
         let w = words[i];
         let callee = (w % 65536) as usize;
-        if w / 16777216 == 30 && callee < n {
+        if w / 16777216 == 30 && callee < n && (left == 1 || !t.seen[callee]) {
             t = topo_visit(words, ops_at, extras_at, n, callee, t, left - 1);
             if t.ring < 256 {
                 return t;
@@ -68,7 +68,7 @@ pub fn topo_visit(
     t.active[c] = false;
     t.seen[c] = true;
     let at = t.count;
-    t.order[at] = c as u32;
+    t.order[at] = c as u8;
     t.count = at + 1;
     t
 }

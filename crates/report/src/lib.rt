@@ -55,7 +55,7 @@ fn words_text(words: &[u32], out: &mut [u8]) -> usize
 
 // The lines of the first n chunks of the order, from `at` on, and the place behind them.
 fn put_lines(
-    order: &[u32],
+    order: &[u8],
     cycles: &[u32],
     peaks: &[u32],
     bytes: &[u32],
@@ -72,7 +72,7 @@ fn put_lines(
     while j < n {
         let c = order[j];
         let k = c as usize;
-        end = put_line(out, end, c, cycles[k], peaks[k], bytes[k]);
+        end = put_line(out, end, c as u32, cycles[k], peaks[k], bytes[k]);
         j += 1;
     }
     end

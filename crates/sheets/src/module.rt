@@ -23,7 +23,7 @@ pub struct Sheet {
     pub number: u32,
     pub chunk: usize,
     pub place: usize,
-    pub order: [u32; 256],
+    pub order: [u8; 256],
     pub cycles: [u32; 256],
     pub peaks: [u32; 256],
     pub bytes: [u32; 256],
@@ -94,7 +94,7 @@ pub fn sheet_of(words: &[u32], n: usize) -> Sheet
 }
 
 // The lines of the chunks that stand at these places, in call order.
-fn sheet_lines(words: &[u32], places: Places, order: [u32; 256], n: usize) -> Sheet
+fn sheet_lines(words: &[u32], places: Places, order: [u8; 256], n: usize) -> Sheet
     requires { ⌜ Ordering (now words) places order n ⌝ }
     ensures { λ r. ⌜ sheetIs n r ≡ inOrder (take n order) (linesIn (take n order) (chunksIn (now (words .entry))) (replicate n noLine)) ⌝ }
 {
@@ -104,10 +104,10 @@ fn sheet_lines(words: &[u32], places: Places, order: [u32; 256], n: usize) -> Sh
     let mut j = 0;
     while j < n {
         let c = order[j] as usize;
-        let at = places.heads[c];
-        let ops = places.ops[c];
-        let extras = places.extras[c];
-        let p = parts_from(words, at, ops, extras, places.ends[c]);
+        let at = places.heads[c] as usize;
+        let ops = places.ops[c] as usize;
+        let extras = places.extras[c] as usize;
+        let p = parts_from(words, at, ops, extras, places.ends[c] as usize);
         let answer = chunk_line(words, p, &bytes[..n]);
         let line = match answer {
             LineAnswer::Is(l) => l,

@@ -1,4 +1,4 @@
--- One chunk's places more.
+-- One chunk's places more, and that they fit 16 bits.
 -- Assumes nothing.
 use mathlib.Core.Path.{_≡_, refl, ap, _∙_}
 use mathlib.Core.Bool.{Bool, true, false}
@@ -9,9 +9,13 @@ use borrow.Author.Tests.{eqb-true, eqb-false}
 use lib.Dec.{eqb}
 use lib.ListN.{length, set, length-set}
 use lib.Seq.{getD-set-same, getD-set-other}
+use Rattle.rules.specs.Outcome.{ok}
+use Rattle.rules.specs.Reading.{read}
+use Rattle.rules.proofs.ReadingAgrees.{read-words}
 use Rattle.words.specs.declared.parts.Parts.{Parts}
 use Rattle.words.specs.Parts.{partsAt, chunksIn, headAt}
 use Rattle.words.specs.Places.{PlacesAt}
+use Rattle.words.proofs.PartLaws.{chunk-head, chunk-parts}
 
 -- the arrays have 256 places
 pub record Sized (heads ops extras ends : List ℕ) : Type 0 where
@@ -19,6 +23,15 @@ pub record Sized (heads ops extras ends : List ℕ) : Type 0 where
   pub ops-size : length ops ≡ 256
   pub extras-size : length extras ≡ 256
   pub ends-size : length ends ≡ 256
+
+-- a module has at most 16,384 words, so its places fit 16 bits
+pub places-fit : (ws : List ℕ) → read ws ≡ ok (chunksIn ws) → (i : ℕ) → i < length (chunksIn ws) → (at : ℕ) (p : Parts) → at ≡ headAt (chunksIn ws) i
+    → p ≡ partsAt ws at → (at < 65536) × (p .ops < 65536) × (p .extras < 65536) × (p .end < 65536)
+places-fit ws reads i lt at p is-head is-parts =
+    let q = chunk-parts ws (chunksIn ws) reads i lt in
+    let long = read-words ws (chunksIn ws) reads .0 in
+    let head = chunk-head ws (chunksIn ws) reads i lt in
+    rw (is-parts, is-head) (omega arith, omega (arith, q .ops-next, q .extras-last, q .within), omega (arith, q .extras-last, q .within), omega (arith, q .within))
 
 pub places-more : (ws : List ℕ) {heads ops extras ends : List ℕ} → Sized heads ops extras ends → (i at : ℕ) (p : Parts) → i < 256
     → at ≡ headAt (chunksIn ws) i → p ≡ partsAt ws at → ((k : ℕ) → k < i → PlacesAt ws heads ops extras ends k)

@@ -23,12 +23,12 @@ pub fn head_of(words: &[u32], c: usize) -> usize
     at
 }
 
-// Where the chunks of a module stand, by index: their heads, ops and extras, and their ends.
+// Where the chunks of a module stand, by index: their heads, ops and extras, and their ends. A module has at most 16,384 words.
 pub struct Places {
-    pub heads: [usize; 256],
-    pub ops: [usize; 256],
-    pub extras: [usize; 256],
-    pub ends: [usize; 256],
+    pub heads: [u16; 256],
+    pub ops: [u16; 256],
+    pub extras: [u16; 256],
+    pub ends: [u16; 256],
 }
 
 // The places of all chunks of words that are a module of n chunks: each chunk's parts are found once, in one pass in all.
@@ -36,18 +36,18 @@ pub fn chunk_places(words: &[u32], n: usize) -> Places
     requires { ⌜ (read (now words) ≡ ok (chunksIn (now words))) × (n ≡ length (chunksIn (now words))) ⌝ }
     ensures { λ r. ⌜ ((k : ℕ) → k < n → PlacedAt (now (words .entry)) r k) ⌝ }
 {
-    let mut heads = [0usize; 256];
-    let mut ops = [0usize; 256];
-    let mut extras = [0usize; 256];
-    let mut ends = [0usize; 256];
+    let mut heads = [0u16; 256];
+    let mut ops = [0u16; 256];
+    let mut extras = [0u16; 256];
+    let mut ends = [0u16; 256];
     let mut at = 1;
     let mut i = 0;
     while i < n {
         let p = parts_at(words, at);
-        heads[i] = at;
-        ops[i] = p.ops;
-        extras[i] = p.extras;
-        ends[i] = p.end;
+        heads[i] = at as u16;
+        ops[i] = p.ops as u16;
+        extras[i] = p.extras as u16;
+        ends[i] = p.end as u16;
         at = p.end;
         i += 1;
     }

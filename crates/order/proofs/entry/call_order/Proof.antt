@@ -1,11 +1,14 @@
 -- `call_order` shows what the visits of all chunks from 0 up come to: the loop's invariant is that the visits from c on give the whole.
 -- Assumes nothing.
-use Prim.Native.Nat.{_-_}
+use Prim.Native.Nat.{_-_, _≤_}
 use mathlib.Core.List.{[]}
+use mathlib.Core.Logic.{⊎-elim}
 use native.Mathlib.Omega.{arith}
 use borrow.Author.Needs.{needs}
+use borrow.Author.Tests.{not-false}
+use Rattle.order.specs.Search.{Searchable}
 use Rattle.order.proofs.VisitLaws.{few-chunks}
-use Rattle.order.proofs.OrderLaws.{Walk, walk-begins, walk-on, walk-ring, walk-end}
+use Rattle.order.proofs.OrderLaws.{Walk, walk-begins, walk-on, walk-past, walk-ring, walk-end}
 use Rattle.order.proofs.entry.call_order.Statement.{statement}
 use Rattle.order.proofs.entry.call_order.Tie as tie
 
@@ -19,7 +22,7 @@ abbrev μ-loop : tie.MeasureT-loop
 abbrev entry : tie.After-begun Inv-loop μ-loop → tie.Start Inv-loop μ-loop
 entry c = c .before .before .before .before
 
--- src/entry.rt:33:9
+-- src/entry.rt:33:17
 begun-requires : tie.Need-begun-requires Inv-loop μ-loop
 begun-requires c κs = search needs
 
@@ -29,24 +32,36 @@ loop-holds c =
     let words = entry c .pre .words in
     walk-begins words (c .begun .ensures _ (few-chunks words))
 
--- src/entry.rt:36:59
-add-topo-visit : tie.Need-add-topo-visit Inv-loop μ-loop
-add-topo-visit c = omega (arith, few-chunks (entry (c .before .before) .pre .words))
-
--- src/entry.rt:36:9
-topo-visit-requires : tie.Need-topo-visit-requires Inv-loop μ-loop
-topo-visit-requires c κs =
+-- a chunk below n can be visited
+asked : (c : tie.In-loop Inv-loop μ-loop) → let a = entry (c .before .before) .args in let l = c .before .loop in
+    Searchable (a .words .now) (a .ops-at .now) (a .extras-at .now) (a .n) (l .c) (l .s)
+asked c =
     let l = c .before in
     record { places = entry (l .before) .pre; chunk = c .loop-test .taken; opened = []; done = l .loop .inv .done; shows = l .loop .inv .shows }
 
--- src/entry.rt:38:13
+few : (c : tie.In-loop Inv-loop μ-loop) → entry (c .before .before) .args .n ≤ 256
+few c = few-chunks (asked c .places .words)
+
+-- src/entry.rt:36:13
+element-copy-out-if1 : tie.Need-element-copy-out-if1 Inv-loop μ-loop
+element-copy-out-if1 c = omega (arith, few c)
+
+-- src/entry.rt:37:63
+add-topo-visit : tie.Need-add-topo-visit Inv-loop μ-loop
+add-topo-visit c = omega (arith, few (c .before .before))
+
+-- src/entry.rt:37:17
+topo-visit-requires : tie.Need-topo-visit-requires Inv-loop μ-loop
+topo-visit-requires c κs = asked (c .before .before)
+
+-- src/entry.rt:39:17
 returns : tie.Need-returns Inv-loop μ-loop
 returns c =
-    let v = c .before .before in
-    let i = v .before in
-    walk-ring (i .before .loop .inv) _ (i .loop-test .taken) (v .topo-visit .ensures) (c .if1 .taken)
+    let v = c .before in
+    let i = v .before .before .before in
+    walk-ring (i .before .loop .inv) _ (i .loop-test .taken) (v .topo-visit .ensures) (c .if2 .taken)
 
--- src/entry.rt:40:9
+-- src/entry.rt:42:9
 add-c : tie.Need-add-c Inv-loop μ-loop
 add-c c = search needs
 
@@ -57,9 +72,12 @@ loop-less c = search needs
 -- src/entry.rt:35:5
 loop-again : tie.Need-loop-again Inv-loop μ-loop
 loop-again c =
-    let v = c .before .before in
-    let i = v .before in
-    walk-on (i .before .loop .inv) _ (i .loop-test .taken) (v .topo-visit .ensures) (few-chunks (entry (i .before .before) .pre .words)) (c .if1 .left)
+    let i = c .before .before in
+    let w = i .before .loop .inv in
+    ⊎-elim
+    (λ v. rw (v .3) (walk-on w _ (i .loop-test .taken) (v .1 .ensures) (few i) (v .2 .left)))
+    (λ v. rw (v .1) (walk-past w (asked i) (not-false _ (v .0 .left))))
+    (c .if1 .came)
 
 -- src/entry.rt:29:1
 returns-2 : tie.Need-returns-2 Inv-loop μ-loop
@@ -73,6 +91,7 @@ call-order-spec =
     μ-loop
     begun-requires
     loop-holds
+    element-copy-out-if1
     add-topo-visit
     topo-visit-requires
     returns

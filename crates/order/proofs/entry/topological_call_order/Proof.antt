@@ -10,26 +10,26 @@ use borrow.Author.Needs.{needs}
 use Rattle.order.proofs.entry.topological_call_order.Statement.{statement}
 use Rattle.order.proofs.entry.topological_call_order.Tie as tie
 
--- src/entry.rt:50:9
+-- src/entry.rt:52:9
 read-module-requires : tie.Need-read-module-requires
 read-module-requires c κs = search needs
 
--- src/entry.rt:52:28
+-- src/entry.rt:54:28
 enum-known-reading : tie.Need-enum-known-reading
 enum-known-reading c = search needs
 
--- src/entry.rt:53:13
+-- src/entry.rt:55:13
 returns : tie.Need-returns
 returns c =
     let r = c .before .before .before in
     let a = r .before .before .before .args in
     unread (a .words .now) (a .tray .now) _ _ (rw (c .before .reading .given .1) at (r .read-module .ensures))
 
--- src/entry.rt:59:27
+-- src/entry.rt:61:27
 enum-known-reading-2 : tie.Need-enum-known-reading-2
 enum-known-reading-2 c = search needs
 
--- src/entry.rt:59:38
+-- src/entry.rt:61:38
 cast-n : tie.Need-cast-n
 cast-n c = search needs
 
@@ -40,21 +40,21 @@ accepted-words c =
     let a = accepted (r .before .before .before .args .words .now) _ (rw (c .before .reading2 .given .1) at (r .read-module .ensures)) in
     record { reads = a .0; chunks = sym (a .1) }
 
--- src/entry.rt:62:9
+-- src/entry.rt:64:9
 returns-2 : tie.Need-returns-2
 returns-2 c = short-tray (accepted-words (c .before)) _ (c .if1 .taken)
 
--- src/entry.rt:68:9
+-- src/entry.rt:70:9
 chunk-places-requires : tie.Need-chunk-places-requires
 chunk-places-requires c κs =
     let words = accepted-words (c .before) in
     (words .reads, words .chunks)
 
--- src/entry.rt:71:31
+-- src/entry.rt:73:31
 slice-aggregate-call-order : tie.Need-slice-aggregate-call-order
 slice-aggregate-call-order c = search needs
 
--- src/entry.rt:71:40
+-- src/entry.rt:73:40
 slice-aggregate-call-order-2 : tie.Need-slice-aggregate-call-order-2
 slice-aggregate-call-order-2 c = search needs
 
@@ -62,7 +62,7 @@ slice-aggregate-call-order-2 c = search needs
 abbrev placed : tie.After-extras-at2 → tie.After-chunk-places
 placed c = c .before .before .before .before
 
--- src/entry.rt:71:9
+-- src/entry.rt:73:9
 call-order-requires : tie.Need-call-order-requires
 call-order-requires c κs =
     let p = placed c in
@@ -75,32 +75,32 @@ call-order-requires c κs =
       extras-room = omega (arith, few-chunks words, slice-aggregate-call-order-2 c);
     }
 
--- src/entry.rt:73:9
+-- src/entry.rt:75:9
 returns-3 : tie.Need-returns-3
 returns-3 c =
     let o = c .before .before in
     let e = placed (o .before) .before in
     ring-met (accepted-words (e .before)) _ (o .call-order .ensures) _ (e .if1 .left) (c .if2 .taken)
 
--- src/entry.rt:80:15
+-- src/entry.rt:82:15
 slice-aggregate-fill-tray : tie.Need-slice-aggregate-fill-tray
 slice-aggregate-fill-tray c = search needs
 
--- src/entry.rt:80:5
+-- src/entry.rt:82:5
 fill-tray-requires : tie.Need-fill-tray-requires
 fill-tray-requires c κs =
     let e = placed (c .before .before .before .before .before .before) .before in
     (omega (arith, few-chunks (accepted-words (e .before)), slice-aggregate-fill-tray (c .before)), e .if1 .left)
 
--- src/entry.rt:81:25
+-- src/entry.rt:83:25
 cast-t25 : tie.Need-cast-t25
 cast-t25 c = search needs
 
--- src/entry.rt:46:1
+-- src/entry.rt:48:1
 same-length : tie.Need-same-length
 same-length c = search needs
 
--- src/entry.rt:46:1
+-- src/entry.rt:48:1
 returns-4 : tie.Need-returns-4
 returns-4 c =
     let t = c .before .before in

@@ -1,12 +1,13 @@
 -- `topo_visit` shows what the definition's visit comes to: the loop's invariant is that the rest of the scan, from the list that the state
 -- shows, gives the whole. Assumes nothing.
 use Prim.Native.Nat.{ℕ, _-_, _<_}
+use mathlib.Core.Path.{sym, _∙_}
 use mathlib.Core.Logic.{⊎-elim}
 use native.Mathlib.Omega.{arith}
 use borrow.Author.Needs.{needs}
-use borrow.Author.Tests.{ltb-true, ltb-false}
+use borrow.Author.Tests.{ltb-true, ltb-false, eqb-false, not-false}
 use Rattle.order.proofs.ScanLaws.{Rest, rest-begins, rest-skips, rest-visits}
-use Rattle.order.proofs.VisitLaws.{few-chunks, ops-within, Opens, inside, room}
+use Rattle.order.proofs.VisitLaws.{few-chunks, ops-within, Opens, inside, passes, room}
 use Rattle.order.proofs.VisitLaws.{visited-none, visited-open, visited-listed, visited-ring, visited-end}
 use borrow.Fn.Kinds.{In, Out}
 use borrow.Fn.PlainCycle.{Measures, is, falls, and}
@@ -85,7 +86,7 @@ topo-visit-element-copy-out-if3 t c = small t (c .before .before .before .before
 topo-visit-returns-2 : topo-visit-need topo-visit-lts.Need-returns-2
 topo-visit-returns-2 t c =
     let e = c .before .before in
-    visited-listed (e .before .before .before .before .before .before .pre .1) _ (e .before .before .if1 .left) (e .if2 .left) (c .if3 .taken)
+    visited-listed (e .before .before .before .before .before .before .pre .1) _ (e .before .before .if1 .left) (c .if3 .taken)
 
 -- src/visit.rt:54:5
 topo-visit-element-write-t : topo-visit-need topo-visit-lts.Need-element-write-t
@@ -99,6 +100,10 @@ topo-visit-mul-end t c = omega (arith, small t (entry t c))
 topo-visit-shared-slice-read-end : topo-visit-need topo-visit-lts.Need-shared-slice-read-end
 topo-visit-shared-slice-read-end t c = search needs
 
+-- src/visit.rt:55:15
+topo-visit-cast-end : topo-visit-need topo-visit-lts.Need-cast-end
+topo-visit-cast-end t c = omega (arith, c .shared-slice-known4 .given (entry t (c .before) .args .c))
+
 -- src/visit.rt:56:17
 topo-visit-mul-i : topo-visit-need topo-visit-lts.Need-mul-i
 topo-visit-mul-i t c = omega (arith, small t (entry t (c .before)))
@@ -106,6 +111,10 @@ topo-visit-mul-i t c = omega (arith, small t (entry t (c .before)))
 -- src/visit.rt:56:17
 topo-visit-shared-slice-read-i : topo-visit-need topo-visit-lts.Need-shared-slice-read-i
 topo-visit-shared-slice-read-i t c = search needs
+
+-- src/visit.rt:56:17
+topo-visit-cast-i : topo-visit-need topo-visit-lts.Need-cast-i
+topo-visit-cast-i t c = omega (arith, c .shared-slice-known5 .given (entry t (c .before .before) .args .c))
 
 -- src/visit.rt:57:5
 topo-visit-loop-holds : topo-visit-need topo-visit-lts.Need-loop-holds
@@ -125,6 +134,12 @@ topo-visit-shared-slice-read-w t c = search needs
 topo-visit-cast-callee : topo-visit-need topo-visit-lts.Need-cast-callee
 topo-visit-cast-callee t c = search needs
 
+-- src/visit.rt:60:63
+topo-visit-element-copy-out-if7 : topo-visit-need topo-visit-lts.Need-element-copy-out-if7
+topo-visit-element-copy-out-if7 t c =
+    let l = c .before .before .before .before .before in
+    omega (arith, few-chunks (entry t (opened-at t l) .pre .1 .places .words), ltb-true)
+
 -- src/visit.rt:61:68
 topo-visit-sub-topo-visit : topo-visit-need topo-visit-lts.Need-sub-topo-visit
 topo-visit-sub-topo-visit t c = search needs
@@ -132,16 +147,16 @@ topo-visit-sub-topo-visit t c = search needs
 -- src/visit.rt:61:17
 topo-visit-topo-visit-requires : topo-visit-need topo-visit-lts.Need-topo-visit-requires
 topo-visit-topo-visit-requires t c κs =
-    let l = c .before .before .before .before in
-    (omega arith, inside (opens t (opened-at t l)) (l .loop .inv) _ (ltb-true _ _ (c .if5 .taken)))
+    let l = c .before .before .before .before .before .before in
+    (omega arith, inside (opens t (opened-at t l)) (l .loop .inv) _ (ltb-true _ _ (c .before .before .if5 .taken)))
 
 -- src/visit.rt:63:17
 topo-visit-returns-3 : topo-visit-need topo-visit-lts.Need-returns-3
 topo-visit-returns-3 t c =
-    let f = c .before .before in
+    let f = c .before .before .before .before in
     let l = f .before .before .before .before in
     visited-ring (opens t (opened-at t l)) (l .loop .inv) _ (f .before .before .before .loop-test .taken) (f .before .if4 .taken)
-    (ltb-true _ _ (f .if5 .taken)) (c .before .topo-visit .ensures) (c .if6 .taken)
+    (ltb-true _ _ (f .if5 .taken)) (c .before .topo-visit .ensures) (c .if8 .taken)
 
 -- src/visit.rt:66:9
 topo-visit-add-i : topo-visit-need topo-visit-lts.Need-add-i
@@ -158,9 +173,17 @@ topo-visit-loop-again t c =
     let more = c .before .before .loop-test .taken in
     let few = few-chunks (entry t (opened-at t l) .pre .1 .places .words) in
     ⊎-elim
-    (λ w. rw (w .4) (rest-visits (l .loop .inv) _ more (w .0 .taken) (ltb-true _ _ (w .1 .taken)) (w .2 .ensures) few (w .3 .left)))
-    (λ w. rw (w .1) (rest-skips (l .loop .inv) more
-    (⊎-elim (λ v h. ltb-false _ _ (v .1 .left)) (λ v h. absurd (v .left h)) (w .0 .came))))
+    (λ w. rw (w .6) (rest-visits (l .loop .inv) _ more (w .0 .taken) (ltb-true _ _ (w .1 .taken)) (w .4 .ensures) few (w .5 .left)))
+    (λ w. rw (w .1)
+    (⊎-elim
+    (λ v.
+    ⊎-elim
+    (λ u. absurd (eqb-false _ _ (sym (u .1) ∙ v .3 .left) (u .0 .taken)))
+    (λ u. passes (opens t (opened-at t l)) (l .loop .inv) more (v .0 .taken) (ltb-true _ _ (v .1 .taken)) (λ z. omega (arith, u .0 .left))
+    (not-false _ (sym (u .2) ∙ v .3 .left)))
+    (v .2 .came))
+    (λ v. rest-skips (l .loop .inv) more (⊎-elim (λ u h. ltb-false _ _ (u .1 .left)) (λ u h. absurd (u .left h)) v))
+    (w .0 .came)))
     (c .if4 .came)
 
 -- src/visit.rt:68:5
@@ -174,10 +197,6 @@ topo-visit-element-write-t-3 t c = small t (entry t (opened-at t (c .before)))
 -- src/visit.rt:71:19
 topo-visit-cast-t : topo-visit-need topo-visit-lts.Need-cast-t
 topo-visit-cast-t t c = omega (arith, small t (entry t (opened-at t (c .before))))
-
--- src/visit.rt:71:5
-topo-visit-mul-t : topo-visit-need topo-visit-lts.Need-mul-t
-topo-visit-mul-t t c = omega (arith, has-room t (c .before))
 
 -- src/visit.rt:71:5
 topo-visit-element-write-t-4 : topo-visit-need topo-visit-lts.Need-element-write-t-4
@@ -206,12 +225,15 @@ pub +topo-visit-spec : {M : Type 1} → statement M
     (topo-visit-element-write-t t)
     (topo-visit-mul-end t)
     (topo-visit-shared-slice-read-end t)
+    (topo-visit-cast-end t)
     (topo-visit-mul-i t)
     (topo-visit-shared-slice-read-i t)
+    (topo-visit-cast-i t)
     (topo-visit-loop-holds t)
     (topo-visit-mul-w t)
     (topo-visit-shared-slice-read-w t)
     (topo-visit-cast-callee t)
+    (topo-visit-element-copy-out-if7 t)
     (topo-visit-sub-topo-visit t)
     (topo-visit-topo-visit-requires t)
     (topo-visit-returns-3 t)
@@ -221,7 +243,6 @@ pub +topo-visit-spec : {M : Type 1} → statement M
     (topo-visit-element-write-t-2 t)
     (topo-visit-element-write-t-3 t)
     (topo-visit-cast-t t)
-    (topo-visit-mul-t t)
     (topo-visit-element-write-t-4 t)
     (topo-visit-add-t t)
     (topo-visit-returns-4 t)

@@ -7,12 +7,9 @@ use Rattle.rules.proofs.ReadingAgrees.{read-words}
 use Rattle.words.specs.Parts.{chunksIn, headAt}
 use Rattle.words.specs.Places.{PlacesAt}
 use Rattle.words.proofs.PartLaws.{first-head, at-within, next-at}
-use Rattle.words.proofs.PlaceLaws.{Sized, places-more}
+use Rattle.words.proofs.PlaceLaws.{Sized, places-fit, places-more}
 use Rattle.words.proofs.heads.chunk_places.Statement.{statement}
 use Rattle.words.proofs.heads.chunk_places.Tie as tie
-use Rattle.words.proofs.heads.chunk_places.Reads as reads
-use Rattle.words.proofs.heads.chunk_places.Lts as lts
-use Rattle.words.proofs.parts.parts_at.Reads as parts-at-reads
 
 abbrev Inv-loop : tie.InvT-loop
 Inv-loop words n heads₀ ops₀ extras₀ ends₀ at₀ i₀ heads ops extras ends at i =
@@ -38,6 +35,18 @@ parts-at-requires c κs =
     let a = l .before .before in
     at-within (a .args .words .now) (chunksIn (a .args .words .now)) (a .pre .0) (l .loop .i) (omega arith) (l .loop .at) (l .loop .inv .2)
 
+-- the places of the chunk fit 16 bits
+fit : (c : tie.After-parts-at Inv-loop μ-loop) → let p = c .parts-at .result in
+    (c .before .before .loop .at < 65536) × (p .ops < 65536) × (p .extras < 65536) × (p .end < 65536)
+fit c =
+    let l = c .before .before in
+    let a = l .before .before in
+    places-fit (a .args .words .now) (a .pre .0) (l .loop .i) (omega arith) (l .loop .at) _ (l .loop .inv .2) (c .parts-at .ensures)
+
+-- src/heads.rt:47:20
+cast-heads : tie.Need-cast-heads Inv-loop μ-loop
+cast-heads c = omega (arith, fit c .0)
+
 -- src/heads.rt:47:9
 mul-heads : tie.Need-mul-heads Inv-loop μ-loop
 mul-heads c = omega (arith, few (c .before))
@@ -46,29 +55,41 @@ mul-heads c = omega (arith, few (c .before))
 array-write-heads : tie.Need-array-write-heads Inv-loop μ-loop
 array-write-heads c = omega (arith, few (c .before))
 
+-- src/heads.rt:48:18
+cast-ops : tie.Need-cast-ops Inv-loop μ-loop
+cast-ops c = omega (arith, fit (c .before) .1)
+
 -- src/heads.rt:48:9
 mul-ops : tie.Need-mul-ops Inv-loop μ-loop
-mul-ops c = omega (arith, few (c .before))
+mul-ops c = omega (arith, few (c .before .before))
 
 -- src/heads.rt:48:9
 array-write-ops : tie.Need-array-write-ops Inv-loop μ-loop
-array-write-ops c = omega (arith, few (c .before))
+array-write-ops c = omega (arith, few (c .before .before))
+
+-- src/heads.rt:49:21
+cast-extras : tie.Need-cast-extras Inv-loop μ-loop
+cast-extras c = omega (arith, fit (c .before .before) .2)
 
 -- src/heads.rt:49:9
 mul-extras : tie.Need-mul-extras Inv-loop μ-loop
-mul-extras c = omega (arith, few (c .before))
+mul-extras c = omega (arith, few (c .before .before .before))
 
 -- src/heads.rt:49:9
 array-write-extras : tie.Need-array-write-extras Inv-loop μ-loop
-array-write-extras c = omega (arith, few (c .before))
+array-write-extras c = omega (arith, few (c .before .before .before))
+
+-- src/heads.rt:50:19
+cast-ends : tie.Need-cast-ends Inv-loop μ-loop
+cast-ends c = omega (arith, fit (c .before .before .before) .3)
 
 -- src/heads.rt:50:9
 mul-ends : tie.Need-mul-ends Inv-loop μ-loop
-mul-ends c = omega (arith, few (c .before))
+mul-ends c = omega (arith, few (c .before .before .before .before))
 
 -- src/heads.rt:50:9
 array-write-ends : tie.Need-array-write-ends Inv-loop μ-loop
-array-write-ends c = omega (arith, few (c .before))
+array-write-ends c = omega (arith, few (c .before .before .before .before))
 
 -- src/heads.rt:52:9
 add-i : tie.Need-add-i Inv-loop μ-loop
@@ -81,11 +102,12 @@ loop-less c = omega arith
 -- src/heads.rt:45:5
 loop-again : tie.Need-loop-again Inv-loop μ-loop
 loop-again c =
-    let l = c .before .before in
+    let p = c .before .before .before in
+    let l = p .before .before in
     let a = l .before .before in
     let ws = a .args .words .now in
-    let more = places-more ws (l .loop .inv .1) (l .loop .i) (l .loop .at) _ (few (c .before)) (l .loop .inv .2) (c .parts-at .ensures) (l .loop .inv .3) in
-    (omega arith, more .0, next-at ws (chunksIn ws) (a .pre .0) (l .loop .i) (omega arith) (l .loop .at) _ (l .loop .inv .2) (c .parts-at .ensures), more .1)
+    let more = places-more ws (l .loop .inv .1) (l .loop .i) (l .loop .at) _ (few (p .before)) (l .loop .inv .2) (p .parts-at .ensures) (l .loop .inv .3) in
+    (omega arith, more .0, next-at ws (chunksIn ws) (a .pre .0) (l .loop .i) (omega arith) (l .loop .at) _ (l .loop .inv .2) (p .parts-at .ensures), more .1)
 
 -- src/heads.rt:35:1
 returns : tie.Need-returns Inv-loop μ-loop
@@ -99,12 +121,16 @@ chunk-places-spec =
     μ-loop
     loop-holds
     parts-at-requires
+    cast-heads
     mul-heads
     array-write-heads
+    cast-ops
     mul-ops
     array-write-ops
+    cast-extras
     mul-extras
     array-write-extras
+    cast-ends
     mul-ends
     array-write-ends
     add-i
