@@ -1,7 +1,7 @@
 //! Every small input of a kind: flat op lists, rows by their grammar, and every change of one or two ops in chunks with counted loops.
 use crate::case::Case;
 use crate::form::{Chunk, Constant, Op};
-use crate::picks::op;
+use crate::picks::{header, op, tail};
 
 /// Choices one after the other. Each run takes the same choices as the one before, but for the last that could be counted up.
 #[derive(Default)]
@@ -120,15 +120,9 @@ fn row(choices: &mut Choices, ops: &mut Vec<Op>, room: &mut u64, loops: usize) {
             6 => {
                 let v = 2 * (loops % 2);
                 ops.push(op(24, 0, 0));
-                ops.extend([op(1, 0, v), op(1, 0, v + 1), op(19, 0, 0), op(27, 0, 0)]);
+                ops.extend(header(v));
                 row(choices, ops, room, loops + 1);
-                ops.extend([
-                    op(1, 0, v),
-                    op(0, 0, 2),
-                    op(51, 0, 0),
-                    op(58, 2, 0),
-                    op(2, 0, v),
-                ]);
+                ops.extend(tail(v));
                 ops.push(op(25, 0, 0));
                 ops[i].a = ops.len() as u16;
             }

@@ -2,7 +2,7 @@
 use crate::case::Case;
 use crate::every::{chunk, worked, worked_array};
 use crate::form::{Chunk, Op};
-use crate::picks::op;
+use crate::picks::{header, op, tail};
 use crate::table::{self, Outcome};
 
 /// Blocks in one another, each of a kind from `kinds` in turn, with `inside` at the middle: 0 an If, 1 an If with an Else whose first arm goes on inside,
@@ -49,17 +49,11 @@ fn counted(depth: usize, passes: i64) -> Chunk {
         ops.extend([op(0, 0, 0), op(2, 0, v), op(0, 0, 1), op(2, 0, v + 1)]);
         open.push((ops.len(), v));
         ops.push(op(24, 0, 0));
-        ops.extend([op(1, 0, v), op(1, 0, v + 1), op(19, 0, 0), op(27, 0, 0)]);
+        ops.extend(header(v));
     }
     while let Some((from, v)) = open.pop() {
-        ops.extend([
-            op(1, 0, v),
-            op(0, 0, 2),
-            op(51, 0, 0),
-            op(58, 2, 0),
-            op(2, 0, v),
-            op(25, 0, 0),
-        ]);
+        ops.extend(tail(v));
+        ops.push(op(25, 0, 0));
         ops[from].a = ops.len() as u16;
     }
     chunk(0, 2 * depth as u16, &[0, passes, 1], ops)

@@ -10,6 +10,22 @@ pub fn op(kind: u8, b: u8, a: usize) -> Op {
     }
 }
 
+/// The header test of a loop that counts from slot v to slot v + 1.
+pub fn header(v: usize) -> [Op; 4] {
+    [op(1, 0, v), op(1, 0, v + 1), op(19, 0, 0), op(27, 0, 0)]
+}
+
+/// The tail of such a loop, which adds constant 2 to slot v.
+pub fn tail(v: usize) -> [Op; 5] {
+    [
+        op(1, 0, v),
+        op(0, 0, 2),
+        op(51, 0, 0),
+        op(58, 2, 0),
+        op(2, 0, v),
+    ]
+}
+
 impl Random {
     /// One of some values.
     pub fn pick<T: Copy>(&mut self, values: &[T]) -> T {
