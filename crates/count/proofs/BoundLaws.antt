@@ -1,32 +1,25 @@
 -- The header, the tail and the body of a counted loop, told by the words that the code reads.
 -- Assumes nothing.
-use mathlib.Core.Path.{_≡_, refl, sym, ap, _∙_}
+use mathlib.Core.Path.{_≡_, refl, sym, _∙_}
 use mathlib.Core.Bool.{Bool, true, false, not, _&&_, and-false, and-assoc}
 use mathlib.Core.List.{List}
 use Prim.Native.Nat.{ℕ, suc, _+_, _-_, _<_, _≤_}
 use native.Mathlib.Numerals.{add-one}
 use native.Mathlib.Omega.{arith}
-use borrow.Author.Tests.{eq-eqb, ne-eqb, le-leb, lt-leb, leb-true, leb-false, eqb-true, not-true, not-false}
+use borrow.Author.Tests.{le-leb, lt-leb, leb-true, leb-false, eqb-true, not-true, not-false}
 use lib.Dec.{eqb, leb}
 use lib.ListN.{length, getD, List·getD-eq-default}
-use Rattle.rules.specs.Ops.{kind, fieldA, fieldB, opAt}
-use Rattle.rules.specs.Form.{Constant, other}
-use Rattle.rules.specs.Count.{isGetLocal, isSetLocal, neverSets, isPositive, hasTail}
+use Rattle.rules.specs.Ops.{kind, opAt}
+use Rattle.rules.specs.Form.{Constant}
+use Rattle.rules.specs.Count.{isSetLocal, neverSets, hasTail}
 use Rattle.count.specs.Count.{hasIncrement}
 use Rattle.count.proofs.SearchLaws.{read-op}
 
--- the kind of an op that `op_at` answered
-pub kind-is : {w u k : ℕ} → w ≡ u → kind w ≡ k → eqb (kind u) k ≡ true
-kind-is {w} {u} {k} e h = eq-eqb (kind u) k (sym (ap kind e) ∙ h)
-
-pub kind-not : {w u k : ℕ} → w ≡ u → (kind w ≡ k → ⊥) → eqb (kind u) k ≡ false
-kind-not {w} {u} {k} e h = ne-eqb (kind u) k (λ f. h (ap kind e ∙ f))
-
 -- past the end there is no EndLoop
-pub end-within : (ops : List ℕ) (n : ℕ) {w : ℕ} → w ≡ opAt ops n → not (eqb (kind w) 25) ≡ false → n < length ops
-end-within ops n {w} e h = go (leb (length ops) n) refl (eqb-true (kind w) 25 (not-false (eqb (kind w) 25) h))
+pub end-within : (ops : List ℕ) (n : ℕ) {b : Bool} → b ≡ eqb (kind (opAt ops n)) 25 → not b ≡ false → n < length ops
+end-within ops n {b} e h = go (leb (length ops) n) refl (eqb-true (kind (opAt ops n)) 25 (sym e ∙ not-false b h))
   where
-    go : (b : Bool) → leb (length ops) n ≡ b → kind w ≡ 25 → n < length ops
+    go : (l : Bool) → leb (length ops) n ≡ l → kind (opAt ops n) ≡ 25 → n < length ops
     go true l k = absurd (omega (arith, List·getD-eq-default ops 4294967295 (leb-true (length ops) n l)))
     go false l k = leb-false (length ops) n l
 
@@ -40,61 +33,6 @@ module _ (ops : List ℕ) (s end at : ℕ) where
       → neverSets ops s (end - at) at ≡ (not (isSetLocal s (getD ops at 0)) && neverSets ops s (end - (at + 1)) (at + 1))
   unfolding neverSets
   never-next h b = let z : end - at ≡ suc (end - (at + 1)) = omega arith in rw (z, add-one at, read-op ops at (omega arith))
-
--- the five ops right before EndLoop at n, read in the list
-unfoldable pub advances : List Constant → List ℕ → ℕ → ℕ → Bool
-advances cs ops n v =
-    isGetLocal v (getD ops (n - 5) 0) && eqb (kind (getD ops (n - 4) 0)) 0 && isPositive (getD cs (fieldA (getD ops (n - 4) 0)) other)
-    && eqb (kind (getD ops (n - 3) 0)) 51 && eqb (kind (getD ops (n - 2) 0)) 58 && eqb (fieldB (getD ops (n - 2) 0)) 2
-    && isSetLocal v (getD ops (n - 1) 0)
-
--- one test that fails decides, and the last where all others hold
-module _ (cs : List Constant) (ops : List ℕ) (n v : ℕ) where
-  pub increment-read : 10 ≤ n → n < length ops → hasIncrement cs ops n v ≡ advances cs ops n v
-  unfolding advances
-  increment-read h k =
-      rw (
-        read-op ops (n - 5) (omega arith),
-        read-op ops (n - 4) (omega arith),
-        read-op ops (n - 3) (omega arith),
-        read-op ops (n - 2) (omega arith),
-        read-op ops (n - 1) (omega arith),
-      )
-
-  pub no-get : (kind (getD ops (n - 5) 0) ≡ 1 → ⊥) → advances cs ops n v ≡ false
-  unfolding advances
-  no-get h = rw (ne-eqb _ _ h)
-
-  pub no-slot : not (eqb (fieldA (getD ops (n - 5) 0)) v) ≡ true → advances cs ops n v ≡ false
-  unfolding advances
-  no-slot h = simp (not-true (eqb (fieldA (getD ops (n - 5) 0)) v) h, and-false)
-
-  pub no-const : (kind (getD ops (n - 4) 0) ≡ 0 → ⊥) → advances cs ops n v ≡ false
-  unfolding advances
-  no-const h = simp (ne-eqb _ _ h, and-false)
-
-  pub no-step : {b : Bool} → b ≡ isPositive (getD cs (fieldA (getD ops (n - 4) 0)) other) → not b ≡ true → advances cs ops n v ≡ false
-  unfolding advances
-  no-step {b} e h = simp (← e, not-true b h, and-false)
-
-  pub no-add : (kind (getD ops (n - 3) 0) ≡ 51 → ⊥) → advances cs ops n v ≡ false
-  unfolding advances
-  no-add h = simp (ne-eqb _ _ h, and-false)
-
-  pub no-pop : (kind (getD ops (n - 2) 0) ≡ 58 → ⊥) → advances cs ops n v ≡ false
-  unfolding advances
-  no-pop h = simp (ne-eqb _ _ h, and-false)
-
-  pub no-two : not (eqb (fieldB (getD ops (n - 2) 0)) 2) ≡ true → advances cs ops n v ≡ false
-  unfolding advances
-  no-two h = simp (not-true (eqb (fieldB (getD ops (n - 2) 0)) 2) h, and-false)
-
-  pub last-decides : kind (getD ops (n - 5) 0) ≡ 1 → not (eqb (fieldA (getD ops (n - 5) 0)) v) ≡ false → kind (getD ops (n - 4) 0) ≡ 0
-      → {b : Bool} → b ≡ isPositive (getD cs (fieldA (getD ops (n - 4) 0)) other) → not b ≡ false → kind (getD ops (n - 3) 0) ≡ 51
-      → kind (getD ops (n - 2) 0) ≡ 58 → not (eqb (fieldB (getD ops (n - 2) 0)) 2) ≡ false → advances cs ops n v ≡ isSetLocal v (getD ops (n - 1) 0)
-  unfolding advances
-  last-decides g s k {b} e h a p t =
-      rw (g, not-false (eqb (fieldA (getD ops (n - 5) 0)) v) s, k, ← e, not-false b h, a, p, not-false (eqb (fieldB (getD ops (n - 2) 0)) 2) t)
 
 -- the tail by its parts
 unfoldable pub tailOf : List Constant → List ℕ → ℕ → ℕ → ℕ → ℕ → Bool
@@ -111,9 +49,9 @@ module _ (cs : List Constant) (ops : List ℕ) (p n v e : ℕ) where
   unfolding tailOf
   short-loop h = rw (lt-leb (p + 10) n h)
 
-  pub no-end : {w : ℕ} → w ≡ opAt ops n → not (eqb (kind w) 25) ≡ true → tailOf cs ops p n v e ≡ false
+  pub no-end : {b : Bool} → b ≡ eqb (kind (opAt ops n)) 25 → not b ≡ true → tailOf cs ops p n v e ≡ false
   unfolding tailOf
-  no-end {w} f h = simp (← f, not-true (eqb (kind w) 25) h, and-false)
+  no-end {b} f h = simp (← f, not-true b h, and-false)
 
   pub no-increment : {b : Bool} → b ≡ hasIncrement cs ops n v → not b ≡ true → tailOf cs ops p n v e ≡ false
   unfolding tailOf
@@ -123,9 +61,9 @@ module _ (cs : List Constant) (ops : List ℕ) (p n v e : ℕ) where
   unfolding tailOf
   end-set {b} f h = rw (← f, not-true b h, and-false)
 
-  pub tail-decides : p + 10 ≤ n → {w : ℕ} → w ≡ opAt ops n → not (eqb (kind w) 25) ≡ false
+  pub tail-decides : p + 10 ≤ n → {d : Bool} → d ≡ eqb (kind (opAt ops n)) 25 → not d ≡ false
       → {a b c : Bool} → a ≡ hasIncrement cs ops n v → not a ≡ false → b ≡ neverSets ops e (n - (p + 5)) (p + 5) → not b ≡ false
       → c ≡ neverSets ops v (n - (p + 6)) (p + 5) → tailOf cs ops p n v e ≡ c
   unfolding tailOf
-  tail-decides l {w} f k {a} {b} {c} g h i j m =
-      rw (le-leb (p + 10) n l, ← f, not-false (eqb (kind w) 25) k, ← g, not-false a h, ← i, not-false b j, ← m)
+  tail-decides l {d} f k {a} {b} {c} g h i j m =
+      rw (le-leb (p + 10) n l, ← f, not-false d k, ← g, not-false a h, ← i, not-false b j, ← m)

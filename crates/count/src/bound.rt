@@ -1,16 +1,25 @@
 // The count of a loop: header, tail, and the distance of the two values.
 use crate::search::Value;
+use crate::search::is_kind;
+use crate::search::is_of;
 use crate::search::op_at;
 use crate::search::trace_const_set_local;
+use words::fields;
+use words::kinds;
+use words::limits::PASSES;
 use words::values::ConstValue;
 use words::values::constant_at;
 ghost use mathlib.Core.Path.{_≡_};
 ghost use Prim.Native.Nat.{_+_, _-_, _≤_, _<_};
 ghost use lib.ListN.{length, getD};
+ghost use Rattle.rules.specs.Limits.{mostWords};
 ghost use Rattle.rules.specs.Form.{other};
 ghost use Rattle.rules.specs.Reading.{constantsOf};
 ghost use Rattle.rules.specs.Count.{hasHeader, hasTail, neverSets, isPositive, passes, countAt};
 ghost use Rattle.count.specs.Count.{boundOf, hasIncrement};
+
+// The greatest count, as a distance.
+const MOST_PASSES: i64 = PASSES as i64;
 
 // The count of a loop, if it has one.
 pub enum Bound {
@@ -20,22 +29,14 @@ pub enum Bound {
 
 // Behind Loop at p stand GetLocal, GetLocal, CmpGe, BreakIf.
 pub fn has_header(ops: &[u32], p: usize) -> bool
-    requires { ⌜ (length (now ops) ≤ 16384) × (p < length (now ops)) ⌝ }
+    requires { ⌜ (length (now ops) ≤ mostWords) × (p < length (now ops)) ⌝ }
     ensures { λ r. ⌜ r ≡ hasHeader (now (ops .entry)) p ⌝ }
 {
-    if op_at(ops, p) / 16777216 != 24 {
-        return false;
-    }
-    if op_at(ops, p + 1) / 16777216 != 1 {
-        return false;
-    }
-    if op_at(ops, p + 2) / 16777216 != 1 {
-        return false;
-    }
-    if op_at(ops, p + 3) / 16777216 != 19 {
-        return false;
-    }
-    op_at(ops, p + 4) / 16777216 == 27
+    is_kind(ops, p, kinds::LOOP)
+        & is_kind(ops, p + 1, kinds::GET_LOCAL)
+        & is_kind(ops, p + 2, kinds::GET_LOCAL)
+        & is_kind(ops, p + 3, kinds::CMP_GE)
+        & is_kind(ops, p + 4, kinds::BREAK_IF)
 }
 
 // None of the n ops from i on sets the slot.
@@ -46,11 +47,8 @@ pub fn never_sets(ops: &[u32], slot: u32, n: usize, i: usize) -> bool
     let end = i + n;
     let mut at = i;
     while at < end {
-        let w = ops[at];
-        if w / 16777216 == 2 {
-            if w % 65536 == slot {
-                return false;
-            }
+        if is_of(ops[at], kinds::SET_LOCAL, slot) {
+            return false;
         }
         at += 1;
     }
@@ -70,26 +68,18 @@ fn is_positive(constants: &[u32], i: usize) -> bool
 
 // The five ops right before EndLoop at n advance v: GetLocal v, Const over 0, CheckedAdd, PopN 2, SetLocal v.
 fn has_increment(constants: &[u32], ops: &[u32], n: usize, v: u32) -> bool
-    requires { ⌜ (10 ≤ n) × (n < length (now ops)) ⌝ }
+    requires { ⌜ 10 ≤ n ⌝ }
     ensures { λ r. ⌜ r ≡ hasIncrement (constantsOf (now (constants .entry))) (now (ops .entry)) n v ⌝ }
 {
-    let get = ops[n - 5];
-    if get / 16777216 != 1 || get % 65536 != v {
-        return false;
-    }
-    let step = ops[n - 4];
-    if step / 16777216 != 0 || !is_positive(constants, (step % 65536) as usize) {
-        return false;
-    }
-    if ops[n - 3] / 16777216 != 51 {
-        return false;
-    }
-    let pop = ops[n - 2];
-    if pop / 16777216 != 58 || pop / 65536 % 256 != 2 {
-        return false;
-    }
-    let set = ops[n - 1];
-    set / 16777216 == 2 && set % 65536 == v
+    let step = op_at(ops, n - 4);
+    let pop = op_at(ops, n - 2);
+    is_of(op_at(ops, n - 5), kinds::GET_LOCAL, v)
+        & is_kind(ops, n - 4, kinds::CONST)
+        & is_positive(constants, (step % fields::B_UNIT) as usize)
+        & is_kind(ops, n - 3, kinds::CHECKED_ADD)
+        & is_kind(ops, n - 2, kinds::POP_N)
+        & (pop / fields::B_UNIT % fields::B_VALUES == 2)
+        & is_of(op_at(ops, n - 1), kinds::SET_LOCAL, v)
 }
 
 // The body of the loop at p, whose EndLoop is to be at n, advances v once, at its tail, and sets neither v elsewhere nor e.
@@ -101,10 +91,10 @@ pub fn loop_body_advances_induction(
     v: u32,
     e: u32,
 ) -> bool
-    requires { ⌜ (length (now ops) ≤ 16384) × (p < length (now ops)) ⌝ }
+    requires { ⌜ (length (now ops) ≤ mostWords) × (p < length (now ops)) ⌝ }
     ensures { λ r. ⌜ r ≡ hasTail (constantsOf (now (constants .entry))) (now (ops .entry)) p n v e ⌝ }
 {
-    if n < p + 10 || op_at(ops, n) / 16777216 != 25 {
+    if n < p + 10 || !is_kind(ops, n, kinds::END_LOOP) {
         return false;
     }
     if !has_increment(constants, ops, n, v) {
@@ -124,7 +114,7 @@ pub fn passes_of(start: i64, stop: i64) -> Bound
         return Bound::Count(0);
     }
     if start < 9223372032559808513 {
-        if start + 4294967295 < stop {
+        if start + MOST_PASSES < stop {
             return Bound::Nothing;
         }
     }
@@ -133,15 +123,15 @@ pub fn passes_of(start: i64, stop: i64) -> Bound
 
 // The count of the loop at p.
 pub fn extract_loop_iteration_bound(constants: &[u32], ops: &[u32], p: usize) -> Bound
-    requires { ⌜ length (now ops) ≤ 16384 ⌝ }
+    requires { ⌜ length (now ops) ≤ mostWords ⌝ }
     ensures { λ r. ⌜ boundOf r ≡ countAt (constantsOf (now (constants .entry))) (now (ops .entry)) p ⌝ }
 {
     if ops.len() <= p || !has_header(ops, p) {
         return Bound::Nothing;
     }
-    let v = op_at(ops, p + 1) % 65536;
-    let e = op_at(ops, p + 2) % 65536;
-    let target = (op_at(ops, p) % 65536) as usize;
+    let v = op_at(ops, p + 1) % fields::B_UNIT;
+    let e = op_at(ops, p + 2) % fields::B_UNIT;
+    let target = (op_at(ops, p) % fields::B_UNIT) as usize;
     if target == 0 || !loop_body_advances_induction(constants, ops, p, target - 1, v, e) {
         return Bound::Nothing;
     }

@@ -5,6 +5,7 @@ use words::lookup::Lookup;
 use words::lookup::find_chunk;
 use words::parts::constants_of;
 use words::parts::ops_of;
+use words::refusals;
 ghost use mathlib.Core.Path.{_≡_};
 ghost use Rattle.rules.specs.Sheet.{countOutcome};
 ghost use Rattle.count.specs.Entry.{answerOutcome};
@@ -41,7 +42,7 @@ pub fn loop_count(words: &[u32], c: usize, p: usize) -> CountAnswer
             match bound {
                 Bound::Count(n) => CountAnswer::Is(n),
                 Bound::Nothing => CountAnswer::Refused {
-                    number: 9,
+                    number: refusals::NO_COUNT,
                     chunk: c,
                     place: p,
                 },

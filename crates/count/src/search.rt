@@ -1,11 +1,16 @@
 // Searches that run backward over the ops of a chunk.
+use words::fields;
+use words::kinds;
+use words::limits::NO_OP;
 use words::values::ConstValue;
 use words::values::constant_at;
 ghost use mathlib.Core.Path.{_≡_};
+ghost use mathlib.Core.Bool.{_&&_};
 ghost use Prim.Native.Nat.{_≤_};
+ghost use lib.Dec.{eqb};
 ghost use lib.ListN.{length, getD};
 ghost use Rattle.rules.specs.Form.{other};
-ghost use Rattle.rules.specs.Ops.{opAt};
+ghost use Rattle.rules.specs.Ops.{kind, fieldA, opAt};
 ghost use Rattle.rules.specs.Reading.{constantsOf};
 ghost use Rattle.rules.specs.Count.{lastSet, arrayLength, valueOf, constantValue};
 ghost use Rattle.count.specs.Count.{foundOf, valueIs};
@@ -26,7 +31,21 @@ pub enum Value {
 pub fn op_at(ops: &[u32], i: usize) -> u32
     ensures { λ r. ⌜ r ≡ opAt (now (ops .entry)) i ⌝ }
 {
-    if i < ops.len() { ops[i] } else { 4294967295 }
+    if i < ops.len() { ops[i] } else { NO_OP }
+}
+
+// The op at a position is of kind k; past the end there is none.
+pub fn is_kind(ops: &[u32], i: usize, k: u32) -> bool
+    ensures { λ r. ⌜ r ≡ eqb (kind (opAt (now (ops .entry)) i)) k ⌝ }
+{
+    op_at(ops, i) / fields::KIND_UNIT == k
+}
+
+// A word of kind k whose field a is `a`.
+pub fn is_of(w: u32, k: u32, a: u32) -> bool
+    ensures { λ r. ⌜ r ≡ (eqb (kind w) k && eqb (fieldA w) a) ⌝ }
+{
+    (w / fields::KIND_UNIT == k) & (w % fields::B_UNIT == a)
 }
 
 // The last position below `before` whose op sets the slot.
@@ -41,10 +60,8 @@ pub fn last_set(ops: &[u32], before: usize, slot: u32) -> Found
         }
         i -= 1;
         let w = ops[i];
-        if w / 16777216 == 2 {
-            if w % 65536 == slot {
-                break Found::At(i);
-            }
+        if is_of(w, kinds::SET_LOCAL, slot) {
+            break Found::At(i);
         }
     }
 }
@@ -63,12 +80,12 @@ pub fn trace_literal_array_length(ops: &[u32], before: usize, slot: u32) -> Valu
         return Value::Unknown;
     }
     let w = ops[at - 1];
-    let kind = w / 16777216;
-    if kind == 34 && w / 65536 % 256 == 1 {
-        return Value::Is((w % 65536) as i64);
+    let kind = w / fields::KIND_UNIT;
+    if kind == kinds::NEW_COMPOSITE && w / fields::B_UNIT % fields::B_VALUES == 1 {
+        return Value::Is((w % fields::B_UNIT) as i64);
     }
-    if kind == 1 {
-        return trace_literal_array_length(ops, at - 1, w % 65536);
+    if kind == kinds::GET_LOCAL {
+        return trace_literal_array_length(ops, at - 1, w % fields::B_UNIT);
     }
     Value::Unknown
 }
@@ -86,17 +103,17 @@ pub fn trace_const_set_local(constants: &[u32], ops: &[u32], before: usize, slot
         return Value::Unknown;
     }
     let w = ops[at - 1];
-    if w / 16777216 == 0 {
-        return constant_value(constants, (w % 65536) as usize);
+    if w / fields::KIND_UNIT == kinds::CONST {
+        return constant_value(constants, (w % fields::B_UNIT) as usize);
     }
-    if at == 1 || w / 16777216 != 39 {
+    if at == 1 || w / fields::KIND_UNIT != kinds::LEN {
         return Value::Unknown;
     }
     let array = ops[at - 2];
-    if array / 16777216 != 1 {
+    if array / fields::KIND_UNIT != kinds::GET_LOCAL {
         return Value::Unknown;
     }
-    trace_literal_array_length(ops, at - 2, array % 65536)
+    trace_literal_array_length(ops, at - 2, array % fields::B_UNIT)
 }
 
 // The constant of an index, if it is an integer.

@@ -16,7 +16,8 @@ use Rattle.rules.specs.Count.{countOf}
 use Rattle.rules.specs.Cycles as R
 use Rattle.rules.specs.Cycles.{rowCost, costs}
 use Rattle.rows.specs.Tree.{HasRow}
-use Rattle.rows.proofs.TreeLaws.{OpensAs, Behind, BreakAt, IfAt, ElseAt, LoopAt, tree-empty}
+use Rattle.rows.specs.Opens.{Behind, BreakAt, IfAt, ElseAt, LoopAt}
+use Rattle.rows.proofs.TreeLaws.{OpensAs, tree-empty}
 use Rattle.rows.proofs.Openings.{opened}
 use Rattle.cycles.specs.declared.sums.Breaks.{Breaks}
 use Rattle.cycles.specs.declared.region.Cost.{Cost}

@@ -8,6 +8,7 @@ use Rattle.rules.specs.Outcome.{Result, ok, no, refused, andThen, inChunk}
 use Rattle.rules.specs.Ops.{opAt}
 use Rattle.rules.specs.Form.{Chunk}
 use Rattle.rules.specs.Rows.{Row, Range, chunkRow}
+use Rattle.rules.specs.Limits.{cycleCap}
 use Rattle.rules.specs.Cycles as R
 use Rattle.rules.specs.Sheet.{cyclesOutcome}
 use Rattle.words.specs.declared.parts.Parts.{Parts}
@@ -16,21 +17,21 @@ use Rattle.words.specs.Lookup.{partsOutcome}
 use Rattle.words.proofs.LookupLaws.{Chunked, lookup-refused}
 use Rattle.rows.specs.Tree.{treeOf}
 use Rattle.rows.specs.Answers.{rangeRow}
+use Rattle.rows.specs.Opens.{RowFits}
 use Rattle.rows.proofs.PartRows.{ops-short, row-refused, row-there}
 use Rattle.cycles.specs.Answers.{chunkOf}
-use Rattle.cycles.specs.Steps.{RowFits}
 use Rattle.cycles.specs.Entry.{wholeCost, chunkCost}
 
 -- the parts' walk is the chunk's
 module _ {ws : List ℕ} {p : Parts} {k : Chunk} (parts : PartsOf ws p k) {constants ops extras : List ℕ} (is-constants : constants ≡ partOf (p .constants) (p .ops) ws)
     (is-ops : ops ≡ partOf (p .ops) (p .extras) ws) (is-extras : extras ≡ partOf (p .extras) (p .end) ws) where
-  pub whole-cost : (g : Range) → R.cappedCost R.cycleCap k (treeOf (opAt ops) (g .from) (g .to)) ≡ wholeCost (chunkOf constants ops extras) (g .from) (g .to)
+  pub whole-cost : (g : Range) → R.cappedCost cycleCap k (treeOf (opAt ops) (g .from) (g .to)) ≡ wholeCost (chunkOf constants ops extras) (g .from) (g .to)
   whole-cost g = rw (is-constants, is-ops, is-extras, parts .constants, parts .ops, parts .extras)
 
 -- the walk of a range that is a row
 pub row-fits : {ws : List ℕ} {p : Parts} {k : Chunk} → PartsOf ws p k → length ws ≤ 16384 → {ops : List ℕ} → ops ≡ partOf (p .ops) (p .extras) ws
-    → {g : Range} → ok g ≡ rangeRow (p .mode) ops → (constants extras : List ℕ) → RowFits constants ops extras (g .from) (g .to)
-row-fits parts short is row constants extras =
+    → {g : Range} → ok g ≡ rangeRow (p .mode) ops → RowFits ops (g .from) (g .to)
+row-fits parts short is row =
     let there = row-there parts short is row in
     record { within = there .within; short = ops-short parts short is; has-row = there .has-row }
 
@@ -47,7 +48,7 @@ module _ {ws : List ℕ} {p : Parts} (short : length ws ≤ 16384) {ops : List �
 cycles-are : (k : Chunk) → andThen (chunkCost k) (λ x. ok (R.cyclesOf x)) ≡ R.chunkCycles k
 cycles-are k = go (chunkRow k)
   where
-    go : (r : Result Row) → andThen (andThen r (λ t. R.cappedCost R.cycleCap k t)) (λ x. ok (R.cyclesOf x)) ≡ andThen r (λ t. andThen (R.cappedCost R.cycleCap k t) (λ x. ok (R.cyclesOf x)))
+    go : (r : Result Row) → andThen (andThen r (λ t. R.cappedCost cycleCap k t)) (λ x. ok (R.cyclesOf x)) ≡ andThen r (λ t. andThen (R.cappedCost cycleCap k t) (λ x. ok (R.cyclesOf x)))
     go (ok t) = refl
     go (no n q) = refl
 

@@ -7,6 +7,7 @@ use Rattle.rules.specs.Ops.{opAt}
 use Rattle.rules.specs.Form.{Chunk}
 use Rattle.rules.specs.Reading.{constantsOf, extrasOf}
 use Rattle.rules.specs.Count.{countOf}
+use Rattle.rules.specs.Limits.{cycleCap}
 use Rattle.rules.specs.Cycles as R
 use Rattle.rows.specs.Tree.{treeOf}
 use Rattle.cycles.specs.declared.sums.Breaks.{Breaks}
@@ -30,7 +31,7 @@ chunkOf constants ops extras =
 
 -- the capped charge of an op
 abbrev pub capCharge : Result ℕ → Result ℕ
-capCharge (ok c) = ok (min R.cycleCap c)
+capCharge (ok c) = ok (min cycleCap c)
 capCharge (no n p) = no n p
 
 abbrev pub chargeAt : List ℕ → List ℕ → ℕ → Result ℕ
@@ -50,7 +51,7 @@ walkResult (W.the-variants.Refused n p) = no n p
 -- the walk of the positions from i up to `to` of a chunk, with so many levels left, from a cost and breaks
 abbrev pub regionCost : Chunk → ℕ → ℕ → ℕ → ℕ → R.Breaks → Result R.Cost
 regionCost c i to left cost breaks =
-    R.rowCost (min R.cycleCap) (R.chargeOf c) (countOf c) (treeOf (opAt (c .ops)) i to) left cost breaks
+    R.rowCost (min cycleCap) (R.chargeOf c) (countOf c) (treeOf (opAt (c .ops)) i to) left cost breaks
 
 -- the same of a body, one level deeper
 abbrev pub partCost : Chunk → ℕ → ℕ → ℕ → R.Breaks → Result R.Cost

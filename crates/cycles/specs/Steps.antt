@@ -2,14 +2,12 @@
 use mathlib.Core.Path.{_≡_}
 use mathlib.Core.Bool.{Bool, true, false, _&&_}
 use mathlib.Core.List.{List}
-use mathlib.Core.Logic.{_⊎_}
-use Prim.Native.Nat.{ℕ, suc, _+_, _-_, _*_, _≤_, _<_, min, max}
-use lib.Dec.{eqb}
-use lib.ListN.{length}
+use Prim.Native.Nat.{ℕ, suc, _+_, _*_, _≤_, _<_, min, max}
 use Rattle.rules.specs.Outcome.{Result, ok, no, andThen}
-use Rattle.rules.specs.Ops.{kind, fieldA, opAt}
+use Rattle.rules.specs.Ops.{opAt}
 use Rattle.rules.specs.Form.{Chunk}
 use Rattle.rules.specs.Count.{countOf}
+use Rattle.rules.specs.Limits.{cycleCap}
 use Rattle.rules.specs.Cycles as R
 use Rattle.rows.specs.Tree.{HasRow}
 use Rattle.cycles.specs.declared.sums.Breaks.{Breaks}
@@ -19,38 +17,7 @@ use Rattle.cycles.specs.declared.region.Step.the-variants.{Goes, Ends, R
 use Rattle.cycles.specs.Answers.{breaksOf, costOf, chunkOf, chargeAt, regionCost, partCost}
 
 abbrev pub cut : ℕ → ℕ
-cut n = min R.cycleCap n
-
--- a row stands from i up to `to`, inside the ops
-pub record RowFits (constants ops extras : List ℕ) (i to : ℕ) : Type 0 where
-  pub within : to ≤ length ops
-  pub short : length ops ≤ 16384
-  pub has-row : HasRow (opAt ops) true i to
-
--- the same, with an op at i
-pub record StepFits (constants ops extras : List ℕ) (i to : ℕ) : Type 0 where
-  pub here : i < to
-  pub row : RowFits constants ops extras i to
-
--- with an If at i whose EndIf is at t
-pub record IfFits (constants ops extras : List ℕ) (i t to : ℕ) : Type 0 where
-  pub step : StepFits constants ops extras i to
-  pub is-if : kind (opAt ops i) ≡ 21
-  pub target : t ≡ fieldA (opAt ops i)
-  pub no-else : eqb (kind (opAt ops (t - 1))) 22 ≡ false
-
--- with an If at i whose Else is at e
-pub record ElseFits (constants ops extras : List ℕ) (i e to : ℕ) : Type 0 where
-  pub step : StepFits constants ops extras i to
-  pub is-if : kind (opAt ops i) ≡ 21
-  pub target : e ≡ fieldA (opAt ops i) - 1
-  pub is-else : kind (opAt ops e) ≡ 22
-
--- with a Loop at i whose EndLoop is at e
-pub record LoopFits (constants ops extras : List ℕ) (i e to : ℕ) : Type 0 where
-  pub step : StepFits constants ops extras i to
-  pub is-loop : kind (opAt ops i) ≡ 24
-  pub target : e ≡ fieldA (opAt ops i) - 1
+cut n = min cycleCap n
 
 -- how a row that ends at `to` goes on from a step
 abbrev pub stepResult : Chunk → ℕ → ℕ → Step → Result R.Cost
@@ -98,9 +65,9 @@ elseTail c i e f to left cost breaks =
     andThen (partCost c (suc i) e left breaks)
     (λ arm. andThen (partCost c (suc e) f left (arm .breaks)) (λ other. armsTail c e f to left cost arm other))
 
-abbrev pub ElseMeans : List ℕ → List ℕ → List ℕ → ℕ → ℕ → ℕ → ℕ → ℕ → Breaks → Step → Type 0
-ElseMeans constants ops extras i e to left cost b r =
-    Means constants ops extras i to left (elseTail (chunkOf constants ops extras) i e (fieldA (opAt ops e)) to left cost (breaksOf b)) r
+abbrev pub ElseMeans : List ℕ → List ℕ → List ℕ → ℕ → ℕ → ℕ → ℕ → ℕ → ℕ → Breaks → Step → Type 0
+ElseMeans constants ops extras i e f to left cost b r =
+    Means constants ops extras i to left (elseTail (chunkOf constants ops extras) i e f to left cost (breaksOf b)) r
 
 -- the walk behind a Loop that was charged: body, passes, EndLoop at e
 abbrev pub loopTail : Chunk → ℕ → ℕ → ℕ → ℕ → ℕ → R.Breaks → Result R.Cost
@@ -149,10 +116,3 @@ abbrev pub allPassesAt : List ℕ → List ℕ → List ℕ → ℕ → ℕ → 
 allPassesAt constants ops extras i e cost body b =
     onCharge (countOf (chunkOf constants ops extras) i)
     (λ n. onCharge (chargeAt ops extras e) (λ d. Goes (suc e) (passesSum cost body n d) b))
-
--- what an op of kind k at i that opens no block gives, at the cost behind it
-pub data Passed (k i cost : ℕ) (b : Breaks) : Step → Type 0 where
-  stops : (k ≡ 31) ⊎ (k ≡ 50) → Passed k i cost b (endedAt cost b)
-  leaves : {n : Breaks} → k ≡ 26 → breaksOf n ≡ R.noteBreak (breaksOf b) cost → Passed k i cost b (endedAt cost n)
-  mayLeave : {n : Breaks} → k ≡ 27 → breaksOf n ≡ R.noteBreak (breaksOf b) cost → Passed k i cost b (Goes (i + 1) cost n)
-  goesOn : (k ≡ 26 → ⊥) → (k ≡ 27 → ⊥) → (k ≡ 31 → ⊥) → (k ≡ 50 → ⊥) → Passed k i cost b (Goes (i + 1) cost b)

@@ -1,6 +1,7 @@
 // The charge of an op: its cycles and its extra.
 use crate::sums::cap_add;
 use words::figures::cycles;
+use words::limits::OPEN_TEXT;
 use words::values::extra_at;
 ghost use mathlib.Core.Path.{_≡_};
 ghost use Prim.Native.Nat.{_<_};
@@ -19,7 +20,7 @@ pub fn op_wcet_cycles(ops: &[u32], extras: &[u32], i: usize) -> Charge
     ensures { λ r. ⌜ chargeResult i r ≡ chargeAt (now (ops .entry)) (now (extras .entry)) i ⌝ }
 {
     let extra = extra_at(extras, i);
-    if extra == 4294967295 {
+    if extra == OPEN_TEXT {
         return Charge::OpenText;
     }
     Charge::Is(cap_add(cycles(ops[i]), extra))

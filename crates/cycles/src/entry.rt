@@ -4,6 +4,7 @@ use crate::region::wcet_region_at;
 use crate::sums::Breaks;
 use rows::check::RowAnswer;
 use rows::check::chunk_row;
+use words::limits::LEVELS;
 use words::lookup::Lookup;
 use words::lookup::find_chunk;
 use words::parts::Parts;
@@ -14,8 +15,8 @@ ghost use mathlib.Core.Path.{_≡_};
 ghost use Rattle.rules.specs.Form.{Chunk};
 ghost use Rattle.rules.specs.Sheet.{cyclesOutcome};
 ghost use Rattle.words.specs.Parts.{PartsOf, PartsFit};
+ghost use Rattle.rows.specs.Opens.{RowFits};
 ghost use Rattle.cycles.specs.Answers.{walkResult, chunkOf};
-ghost use Rattle.cycles.specs.Steps.{RowFits};
 ghost use Rattle.cycles.specs.Entry.{answerOutcome, wholeCost, chunkCost};
 
 // The cycles and whether the row ends, or refusal 1, 2, 12 or 3 to 9.
@@ -33,14 +34,14 @@ pub enum CyclesAnswer {
 
 // The whole range of a chunk, with 256 levels of nesting.
 pub fn wcet_region(constants: &[u32], ops: &[u32], extras: &[u32], from: usize, to: usize) -> Walk
-    requires { ⌜ RowFits (now constants) (now ops) (now extras) from to ⌝ }
+    requires { ⌜ RowFits (now ops) from to ⌝ }
     ensures { λ r. ⌜ walkResult r ≡ wholeCost (chunkOf (now (constants .entry)) (now (ops .entry)) (now (extras .entry))) from to ⌝ }
 {
     let none = Breaks {
         met: false,
         costliest: 0,
     };
-    wcet_region_at(constants, ops, extras, from, to, 256, none)
+    wcet_region_at(constants, ops, extras, from, to, LEVELS, none)
 }
 
 // The cycle walk of the chunk with these parts: 3, 4, 5, 6, and 7 to 9 as the walk meets them.

@@ -8,11 +8,16 @@ use crate::sums::cap_mul;
 use crate::sums::note_break;
 use count::bound::Bound;
 use count::bound::extract_loop_iteration_bound;
+use rows::block::Block;
+use rows::block::block_at;
+use words::refusals;
 ghost use mathlib.Core.Path.{_≡_};
-ghost use Prim.Native.Nat.{_≤_, _<_};
+ghost use Prim.Native.Nat.{ℕ, _≤_, _<_};
 ghost use lib.ListN.{length};
+ghost use Rattle.rules.specs.Limits.{mostWords};
+ghost use Rattle.rows.specs.Opens.{RowFits, StepFits, IfFits, ElseFits, LoopFits};
 ghost use Rattle.cycles.specs.Answers.{breaksOf, walkResult, partCost, regionCost, chunkOf};
-ghost use Rattle.cycles.specs.Steps.{RowFits, StepFits, IfFits, ElseFits, LoopFits, StepMeans, IfMeans, ElseMeans, LoopMeans, Passed, endedAt, joined, allPassesAt, onePassAt};
+ghost use Rattle.cycles.specs.Steps.{StepMeans, IfMeans, ElseMeans, LoopMeans, endedAt, joined, allPassesAt, onePassAt};
 
 // What the walk of a row gives: its cycles, whether it ends, and the breaks out of the loop around it.
 pub struct Cost {
@@ -55,14 +60,14 @@ pub fn wcet_region_at(
     left: u16,
     breaks: Breaks,
 ) -> Walk
-    requires { ⌜ RowFits (now constants) (now ops) (now extras) from to ⌝ }
+    requires { ⌜ RowFits (now ops) from to ⌝ }
     ensures { λ r. ⌜ walkResult r ≡ regionCost (chunkOf (now (constants .entry)) (now (ops .entry)) (now (extras .entry))) from to left 0 (breaksOf breaks) ⌝ }
 {
     let mut i = from;
     let mut cycles: u32 = 0;
     let mut met = breaks;
     while i < to {
-        let step = wcet_step(constants, ops, extras, i, to, left, cycles, met);
+        let step = wcet_step(constants, ops, extras, i, left, cycles, met);
         match step {
             Step::Goes(next, cost, noted) => {
                 i = next;
@@ -90,52 +95,31 @@ fn wcet_step(
     ops: &[u32],
     extras: &[u32],
     i: usize,
-    to: usize,
     left: u16,
     cycles: u32,
     breaks: Breaks,
 ) -> Step
-    requires { ⌜ StepFits (now constants) (now ops) (now extras) i to ⌝ }
-    ensures { λ r. ⌜ StepMeans (now (constants .entry)) (now (ops .entry)) (now (extras .entry)) i to left cycles breaks r ⌝ }
+    requires { ⌜ ((to : ℕ) × StepFits (now ops) i to) ⌝ }
+    ensures { λ r. ⌜ ((to : ℕ) → StepFits (now (ops .entry)) i to → StepMeans (now (constants .entry)) (now (ops .entry)) (now (extras .entry)) i to left cycles breaks r) ⌝ }
 {
     let charge = op_wcet_cycles(ops, extras, i);
     let Charge::Is(own) = charge else {
         return Step::Refused {
-            number: 8,
+            number: refusals::OPEN_TEXT,
             place: i,
         };
     };
     let cost = cap_add(cycles, own);
-    let w = ops[i];
-    let k = w / 16777216;
-    let t = (w % 65536) as usize;
-    if k == 21 {
-        if ops[t - 1] / 16777216 == 22 {
-            return wcet_else(constants, ops, extras, i, t - 1, to, left, cost, breaks);
-        }
-        return wcet_if(constants, ops, extras, i, t, to, left, cost, breaks);
+    let block = block_at(ops, i);
+    match block {
+        Block::Plain => Step::Goes(i + 1, cost, breaks),
+        Block::Ends => ended(cost, breaks),
+        Block::Break => ended(cost, note_break(breaks, cost)),
+        Block::BreakIf => Step::Goes(i + 1, cost, note_break(breaks, cost)),
+        Block::If(t) => wcet_if(constants, ops, extras, i, t, left, cost, breaks),
+        Block::IfElse(e, f) => wcet_else(constants, ops, extras, i, e, f, left, cost, breaks),
+        Block::Loop(e) => wcet_loop(constants, ops, extras, i, e, left, cost, breaks),
     }
-    if k == 24 {
-        return wcet_loop(constants, ops, extras, i, t - 1, to, left, cost, breaks);
-    }
-    pass_op(k, i, cost, breaks)
-}
-
-// Behind an op of kind k at i that opens no block, charged already: Return, Trap and Break end the row, and Break and BreakIf are noted.
-fn pass_op(k: u32, i: usize, cost: u32, breaks: Breaks) -> Step
-    requires { ⌜ i < 65536 ⌝ }
-    ensures { λ r. ⌜ Passed k i cost breaks r ⌝ }
-{
-    if k == 31 || k == 50 {
-        return ended(cost, breaks);
-    }
-    if k == 26 {
-        return ended(cost, note_break(breaks, cost));
-    }
-    if k == 27 {
-        return Step::Goes(i + 1, cost, note_break(breaks, cost));
-    }
-    Step::Goes(i + 1, cost, breaks)
 }
 
 // A body, one level deeper.
@@ -148,12 +132,12 @@ fn wcet_part(
     left: u16,
     breaks: Breaks,
 ) -> Walk
-    requires { ⌜ RowFits (now constants) (now ops) (now extras) from to ⌝ }
+    requires { ⌜ RowFits (now ops) from to ⌝ }
     ensures { λ r. ⌜ walkResult r ≡ partCost (chunkOf (now (constants .entry)) (now (ops .entry)) (now (extras .entry))) from to left (breaksOf breaks) ⌝ }
 {
     if left == 0 {
         return Walk::Refused {
-            number: 7,
+            number: refusals::TOO_DEEP,
             place: 0,
         };
     }
@@ -167,13 +151,12 @@ fn wcet_if(
     extras: &[u32],
     i: usize,
     t: usize,
-    to: usize,
     left: u16,
     cost: u32,
     breaks: Breaks,
 ) -> Step
-    requires { ⌜ IfFits (now constants) (now ops) (now extras) i t to ⌝ }
-    ensures { λ r. ⌜ IfMeans (now (constants .entry)) (now (ops .entry)) (now (extras .entry)) i t to left cost breaks r ⌝ }
+    requires { ⌜ ((to : ℕ) × IfFits (now ops) i t to) ⌝ }
+    ensures { λ r. ⌜ ((to : ℕ) → IfFits (now (ops .entry)) i t to → IfMeans (now (constants .entry)) (now (ops .entry)) (now (extras .entry)) i t to left cost breaks r) ⌝ }
 {
     let part = wcet_part(constants, ops, extras, i + 1, t, left, breaks);
     let arm = match part {
@@ -185,7 +168,7 @@ fn wcet_if(
     let charge = op_wcet_cycles(ops, extras, t);
     let Charge::Is(close) = charge else {
         return Step::Refused {
-            number: 8,
+            number: refusals::OPEN_TEXT,
             place: t,
         };
     };
@@ -193,22 +176,21 @@ fn wcet_if(
     Step::Goes(t + 1, cap_add(cap_add(cost, arm.cycles), close), noted)
 }
 
-// Behind an If at i, charged already, with Else at e: both arms, Else, and EndIf at Else's target.
+// Behind an If at i, charged already, with Else at e and EndIf at f: both arms, Else, and EndIf.
 fn wcet_else(
     constants: &[u32],
     ops: &[u32],
     extras: &[u32],
     i: usize,
     e: usize,
-    to: usize,
+    f: usize,
     left: u16,
     cost: u32,
     breaks: Breaks,
 ) -> Step
-    requires { ⌜ ElseFits (now constants) (now ops) (now extras) i e to ⌝ }
-    ensures { λ r. ⌜ ElseMeans (now (constants .entry)) (now (ops .entry)) (now (extras .entry)) i e to left cost breaks r ⌝ }
+    requires { ⌜ ((to : ℕ) × ElseFits (now ops) i e f to) ⌝ }
+    ensures { λ r. ⌜ ((to : ℕ) → ElseFits (now (ops .entry)) i e f to → ElseMeans (now (constants .entry)) (now (ops .entry)) (now (extras .entry)) i e f to left cost breaks r) ⌝ }
 {
-    let f = (ops[e] % 65536) as usize;
     let first = wcet_part(constants, ops, extras, i + 1, e, left, breaks);
     let arm = match first {
         Walk::Done(c) => c,
@@ -243,14 +225,14 @@ fn join_arms(
     let charge = op_wcet_cycles(ops, extras, e);
     let Charge::Is(jump) = charge else {
         return Step::Refused {
-            number: 8,
+            number: refusals::OPEN_TEXT,
             place: e,
         };
     };
     let last = op_wcet_cycles(ops, extras, f);
     let Charge::Is(close) = last else {
         return Step::Refused {
-            number: 8,
+            number: refusals::OPEN_TEXT,
             place: f,
         };
     };
@@ -275,13 +257,12 @@ fn wcet_loop(
     extras: &[u32],
     i: usize,
     e: usize,
-    to: usize,
     left: u16,
     cost: u32,
     breaks: Breaks,
 ) -> Step
-    requires { ⌜ LoopFits (now constants) (now ops) (now extras) i e to ⌝ }
-    ensures { λ r. ⌜ LoopMeans (now (constants .entry)) (now (ops .entry)) (now (extras .entry)) i e to left cost breaks r ⌝ }
+    requires { ⌜ ((to : ℕ) × LoopFits (now ops) i e to) ⌝ }
+    ensures { λ r. ⌜ ((to : ℕ) → LoopFits (now (ops .entry)) i e to → LoopMeans (now (constants .entry)) (now (ops .entry)) (now (extras .entry)) i e to left cost breaks r) ⌝ }
 {
     let none = Breaks {
         met: false,
@@ -311,20 +292,20 @@ fn all_passes(
     body: Cost,
     breaks: Breaks,
 ) -> Step
-    requires { ⌜ (e < length (now ops)) × (length (now ops) ≤ 16384) ⌝ }
+    requires { ⌜ (e < length (now ops)) × (length (now ops) ≤ mostWords) ⌝ }
     ensures { λ r. ⌜ r ≡ allPassesAt (now (constants .entry)) (now (ops .entry)) (now (extras .entry)) i e cost body breaks ⌝ }
 {
     let bound = extract_loop_iteration_bound(constants, ops, i);
     let Bound::Count(n) = bound else {
         return Step::Refused {
-            number: 9,
+            number: refusals::NO_COUNT,
             place: i,
         };
     };
     let charge = op_wcet_cycles(ops, extras, e);
     let Charge::Is(close) = charge else {
         return Step::Refused {
-            number: 8,
+            number: refusals::OPEN_TEXT,
             place: e,
         };
     };

@@ -1,8 +1,13 @@
 // Sums and products that stop at 4,294,967,295, and the breaks of a loop.
+use words::limits::CYCLE_CAP;
 ghost use mathlib.Core.Path.{_≡_};
 ghost use Prim.Native.Nat.{_+_, _*_, min};
-ghost use Rattle.rules.specs.Cycles.{cycleCap, noteBreak, breakCost};
+ghost use Rattle.rules.specs.Limits.{cycleCap};
+ghost use Rattle.rules.specs.Cycles.{noteBreak, breakCost};
 ghost use Rattle.cycles.specs.Answers.{breaksOf};
+
+// The cap, wide.
+const WIDE_CAP: u64 = CYCLE_CAP as u64;
 
 // The breaks met so far: whether there was one, and the costliest.
 pub struct Breaks {
@@ -14,11 +19,7 @@ pub struct Breaks {
 pub fn cap_add(a: u32, b: u32) -> u32
     ensures { λ r. ⌜ r ≡ min cycleCap (a + b) ⌝ }
 {
-    if b <= 4294967295 - a {
-        a + b
-    } else {
-        4294967295
-    }
+    if b <= CYCLE_CAP - a { a + b } else { CYCLE_CAP }
 }
 
 // A product that stops at the cap.
@@ -26,10 +27,10 @@ pub fn cap_mul(a: u32, b: u32) -> u32
     ensures { λ r. ⌜ r ≡ min cycleCap (a * b) ⌝ }
 {
     let wide = (a as u64) * (b as u64);
-    if wide <= 4294967295 {
+    if wide <= WIDE_CAP {
         wide as u32
     } else {
-        4294967295
+        CYCLE_CAP
     }
 }
 

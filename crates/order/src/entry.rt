@@ -3,8 +3,10 @@ use crate::visit::Search;
 use crate::visit::begun;
 use crate::visit::topo_visit;
 use words::heads::chunk_places;
+use words::limits::CHUNKS;
 use words::reader::Reading;
 use words::reader::read_module;
+use words::refusals;
 ghost use mathlib.Core.Path.{_≡_};
 ghost use mathlib.Core.List.{[], _++_};
 ghost use Prim.Native.Nat.{_≤_};
@@ -35,7 +37,7 @@ pub fn call_order(words: &[u32], ops_at: &[u16], extras_at: &[u16], n: usize) ->
     while c < n {
         if !s.seen[c] {
             s = topo_visit(words, ops_at, extras_at, n, c, s, n + 1);
-            if s.ring < 256 {
+            if s.ring < CHUNKS {
                 return s;
             }
         }
@@ -62,7 +64,7 @@ pub fn topological_call_order(words: &[u32], tray: &mut [u32]) -> OrderAnswer
     };
     if tray.len() < n {
         return OrderAnswer::Refused {
-            number: 13,
+            number: refusals::SHORT_TRAY,
             chunk: 0,
             place: 0,
         };
@@ -71,9 +73,9 @@ pub fn topological_call_order(words: &[u32], tray: &mut [u32]) -> OrderAnswer
     let ops_at = places.ops;
     let extras_at = places.extras;
     let s = call_order(words, &ops_at, &extras_at, n);
-    if s.ring < 256 {
+    if s.ring < CHUNKS {
         return OrderAnswer::Refused {
-            number: 10,
+            number: refusals::RING,
             chunk: s.ring,
             place: 0,
         };

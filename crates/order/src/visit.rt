@@ -1,4 +1,7 @@
 // The depth-first search over the calls of a module, with its marks in arrays by value.
+use words::fields;
+use words::kinds;
+use words::limits::CHUNKS;
 ghost use mathlib.Core.Path.{_≡_};
 ghost use mathlib.Core.List.{List, []};
 ghost use Prim.Native.Nat.{ℕ, _≤_};
@@ -9,9 +12,9 @@ ghost use Rattle.order.specs.Search.{Searchable, Shows, Shown};
 // The chunks that are listed, those whose visits are open, the list so far and its length, and the chunk that makes the ring, 256 while
 // there is none.
 pub struct Search {
-    pub seen: [bool; 256],
-    pub active: [bool; 256],
-    pub order: [u8; 256],
+    pub seen: [bool; CHUNKS],
+    pub active: [bool; CHUNKS],
+    pub order: [u8; CHUNKS],
     pub count: usize,
     pub ring: usize,
 }
@@ -21,11 +24,11 @@ pub fn begun() -> Search
     ensures { λ r. ⌜ ((n : ℕ) → n ≤ 256 → Shows r n [] []) ⌝ }
 {
     Search {
-        seen: [false; 256],
-        active: [false; 256],
-        order: [0; 256],
+        seen: [false; CHUNKS],
+        active: [false; CHUNKS],
+        order: [0; CHUNKS],
         count: 0,
-        ring: 256,
+        ring: CHUNKS,
     }
 }
 
@@ -56,10 +59,10 @@ pub fn topo_visit(
     let mut i = ops_at[c] as usize;
     while i < end {
         let w = words[i];
-        let callee = (w % 65536) as usize;
-        if w / 16777216 == 30 && callee < n && (left == 1 || !t.seen[callee]) {
+        let callee = (w % fields::B_UNIT) as usize;
+        if w / fields::KIND_UNIT == kinds::CALL && callee < n && (left == 1 || !t.seen[callee]) {
             t = topo_visit(words, ops_at, extras_at, n, callee, t, left - 1);
-            if t.ring < 256 {
+            if t.ring < CHUNKS {
                 return t;
             }
         }

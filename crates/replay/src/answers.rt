@@ -7,6 +7,7 @@ use libc::STDOUT_FILENO;
 use order::entry::OrderAnswer;
 use order::entry::topological_call_order;
 use sheets::module::SheetAnswer;
+use sheets::module::WIDTH;
 use sheets::module::module_sheet;
 use stack::entry::StackAnswer;
 use stack::entry::stack_walk;
@@ -167,7 +168,7 @@ fn show_sheet(words: &[u32], room: usize)
     let mut tray = [0u32; 1024];
     let answer = sheet_front(words, &mut tray, room);
     match answer {
-        SheetAnswer::Lines(n) => write_numbers(&tray, 3 * n as usize),
+        SheetAnswer::Lines(n) => write_numbers(&tray, WIDTH * n as usize),
         SheetAnswer::Refused {
             number,
             chunk,

@@ -7,14 +7,14 @@ use native.Mathlib.Omega.{arith}
 use lib.ListN.{length, getD, take, drop}
 use lib.Seq.{take-suc}
 use Rattle.rules.specs.Sheet.{Line, noLine}
-use Rattle.rules.specs.Text.{lineText, linesText}
+use Rattle.rules.specs.Text.{lineMost, lineText, linesText}
 use Rattle.text.proofs.PasteLaws.{Put, then, pasted-none, pasted-length}
-use Rattle.sheets.specs.Module.{lineList}
+use Rattle.sheets.specs.Module.{lineAt, lineList}
 use Rattle.sheets.proofs.LineLaws.{next}
 
 -- the line of chunk k
 line-at : (n : ℕ) (cycles peaks bytes : List ℕ) (k : ℕ) → k < n
-    → getD (lineList n cycles peaks bytes) k noLine ≡ record { cycles = getD cycles k 0; peak = getD peaks k 0; bytes = getD bytes k 0 }
+    → getD (lineList n cycles peaks bytes) k noLine ≡ lineAt k cycles peaks bytes
 unfolding lineList
 line-at zero cycles peaks bytes k h = absurd (omega arith)
 line-at (suc n) cycles peaks bytes zero h = refl
@@ -43,16 +43,16 @@ module _ (order cycles peaks bytes : List ℕ) (n at : ℕ) (out : List ℕ) whe
 
   -- after j turns: the first j lines are written, and they are short
   abbrev pub Written : ℕ → List ℕ → ℕ → Type 0
-  Written j now end = Put at (textOf j) out now end × (end ≤ at + 44 * j) × (length now ≡ length out)
+  Written j now end = Put at (textOf j) out now end × (end ≤ at + lineMost * j) × (length now ≡ length out)
 
   pub written-none : Written 0 out at
   unfolding linesText
   written-none = ((sym (pasted-none at out), omega arith), omega arith, refl)
 
-  pub written-more : (j : ℕ) → j < length order → getD order j 0 < n → at + 44 * j + 44 ≤ length out
+  pub written-more : (j : ℕ) → j < length order → getD order j 0 < n → at + lineMost * j + lineMost ≤ length out
       → {now after : List ℕ} {end r : ℕ} → Written j now end
-      → let k = getD order j 0 in let l : Line = record { cycles = getD cycles k 0; peak = getD peaks k 0; bytes = getD bytes k 0 } in
-      Put end (lineText k l) now after r → r ≤ end + 44 → Written (j + 1) after r
+      → let k = getD order j 0 in
+      Put end (lineText k (lineAt k cycles peaks bytes)) now after r → r ≤ end + lineMost → Written (j + 1) after r
   written-more j lt is fits {now} {after} {end} {r} w put short =
       let k = getD order j 0 in
       let l = lineList n cycles peaks bytes in

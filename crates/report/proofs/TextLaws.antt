@@ -9,8 +9,8 @@ use borrow.Author.Tests.{eq-eqb, ne-eqb}
 use lib.ListN.{length, getD, take}
 use lib.Seq.{getD-take, length-take-le}
 use Rattle.rules.specs.Outcome.{refused}
-use Rattle.rules.specs.Sheet.{readOutcome, sheetOf, sheetOutcome}
-use Rattle.rules.specs.Text.{heading, linesText, outcomeText, wordsOf, sheetText}
+use Rattle.rules.specs.Sheet.{readOutcome, sheetOf, sheetOutcome, sheetRoom}
+use Rattle.rules.specs.Text.{heading, linesText, outcomeText, sheetMost, wordsOf, sheetText}
 use Rattle.rules.proofs.ReadingAgrees.{read-over}
 use Rattle.words.specs.Parts.{chunksIn}
 use Rattle.words.proofs.LookupLaws.{refused-before}
@@ -30,18 +30,18 @@ use Rattle.report.specs.Report.{LinesFit}
 pub same-text : (xs ys l : List ℕ) {m : List ℕ} {r : ℕ} → Put 0 xs l m r → xs ≡ ys → (m ≡ pasted 0 ys l) × (r ≡ length ys)
 same-text xs ys l p e = (p .0 ∙ ap (λ (t : List ℕ). pasted 0 t l) e, omega (arith, p .1, ap length e))
 
-pub unread-text : (ws : List ℕ) (n p : ℕ) → refused n 0 p ≡ readOutcome ws → outcomeText (refused n 0 p) ≡ outcomeText (sheetOutcome ws 768)
+pub unread-text : (ws : List ℕ) (n p : ℕ) → refused n 0 p ≡ readOutcome ws → outcomeText (refused n 0 p) ≡ outcomeText (sheetOutcome ws sheetRoom)
 unread-text ws n p e = ap outcomeText (refused-before ws n p _ e)
 
 module _ {ws : List ℕ} {n : ℕ} (words : Readable ws n) (s : Sheet) (made : sheetIs n s ≡ sheetOf (chunksIn ws)) where
-  outcome : sheetOutcome ws 768 ≡ sheetIs n s
-  outcome = sheet-outcome words s made 768 (omega (arith, few-chunks words))
+  outcome : sheetOutcome ws sheetRoom ≡ sheetIs n s
+  outcome = sheet-outcome words s made sheetRoom (omega (arith, few-chunks words))
 
-  pub refused-text : s .refuses ≡ true → outcomeText (refused (s .number) (s .chunk) (s .place)) ≡ outcomeText (sheetOutcome ws 768)
+  pub refused-text : s .refuses ≡ true → outcomeText (refused (s .number) (s .chunk) (s .place)) ≡ outcomeText (sheetOutcome ws sheetRoom)
   refused-text e = sym (ap outcomeText (rw e at outcome))
 
   module _ (is : s .refuses ≡ false) where
-    pub answered-text : heading ++ linesText (take n (s .order)) (lineList n (s .cycles) (s .peaks) (s .bytes)) ≡ outcomeText (sheetOutcome ws 768)
+    pub answered-text : heading ++ linesText (take n (s .order)) (lineList n (s .cycles) (s .peaks) (s .bytes)) ≡ outcomeText (sheetOutcome ws sheetRoom)
     answered-text = sym (ap outcomeText (rw is at outcome))
 
     listed : n ≤ length (s .order) → (j : ℕ) → j < n → getD (s .order) j 0 < n
@@ -50,9 +50,9 @@ module _ {ws : List ℕ} {n : ℕ} (words : Readable ws n) (s : Sheet) (made : s
         let below = order-chunks (chunksIn ws) _ (sym (rw is at made)) j there in
         omega (arith, words .chunks, (rw (getD-take n (s .order) j 0 lt) at below))
 
-    -- 24 bytes of heading and 256 lines of at most 44 bytes
+    -- the heading and 256 lines
     pub lines-fit : length (s .order) ≡ 256 → length (s .cycles) ≡ 256 → length (s .peaks) ≡ 256 → length (s .bytes) ≡ 256
-        → (out : List ℕ) → 11288 ≤ length out → LinesFit (s .order) (s .cycles) (s .peaks) (s .bytes) n out 24
+        → (out : List ℕ) → sheetMost ≤ length out → LinesFit (s .order) (s .cycles) (s .peaks) (s .bytes) n out 24
     lines-fit orders cycles peaks bytes out room =
         let few = few-chunks words in
         record {
@@ -68,13 +68,13 @@ module _ {ws : List ℕ} {n : ℕ} (words : Readable ws n) (s : Sheet) (made : s
 pub odd-bytes : (bytes : List ℕ) → (length bytes % 4 ≡ 0 → ⊥) → outcomeText (refused 1 0 0) ≡ sheetText bytes
 odd-bytes bytes h = rw (ne-eqb (length bytes % 4) 0 h)
 
-pub whole-words : (bytes : List ℕ) → length bytes % 4 ≡ 0 → outcomeText (sheetOutcome (wordsOf bytes) 768) ≡ sheetText bytes
+pub whole-words : (bytes : List ℕ) → length bytes % 4 ≡ 0 → outcomeText (sheetOutcome (wordsOf bytes) sheetRoom) ≡ sheetText bytes
 whole-words bytes h = rw (eq-eqb (length bytes % 4) 0 h)
 
 pub many-bytes : (bytes : List ℕ) → length bytes % 4 ≡ 0 → 65536 < length bytes → outcomeText (refused 1 0 0) ≡ sheetText bytes
 many-bytes bytes h more =
     let over : 16384 < length (wordsOf bytes) = omega (arith, words-length bytes) in
-    let e : sheetOutcome (wordsOf bytes) 768 ≡ refused 1 0 0 = rw (read-over (wordsOf bytes) over) in
+    let e : sheetOutcome (wordsOf bytes) sheetRoom ≡ refused 1 0 0 = rw (read-over (wordsOf bytes) over) in
     sym (ap outcomeText e) ∙ whole-words bytes h
 
 -- the words that were read are at the front of the buffer, all of them

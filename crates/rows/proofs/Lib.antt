@@ -7,3 +7,5 @@ pub mod OpenBlocks
 pub mod BlockArray
 pub mod Openings
 pub mod PartRows
+pub mod BlockLaws
+pub mod FitLaws

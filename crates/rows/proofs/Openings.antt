@@ -11,7 +11,8 @@ use Rattle.rules.specs.Ops.{kind, fieldA}
 use Rattle.rules.specs.Rows.{Shape, plain, trap, returns, ifTo, elseTo, endIf, loopTo, endLoop, breaks, breaksIf, calls, shapeOf}
 use Rattle.rules.specs.Rows.{step, stop, leave, leaveIf}
 use Rattle.rows.specs.Tree.{HasRow}
-use Rattle.rows.proofs.TreeLaws.{OpensAs, Behind, BreakAt, IfAt, ElseAt, LoopAt, opens}
+use Rattle.rows.proofs.TreeLaws.{OpensAs, opens}
+use Rattle.rows.specs.Opens.{Behind, BreakAt, IfAt, ElseAt, LoopAt}
 
 not-both : (b : Bool) → b ≡ true → b ≡ false → ⊥
 not-both b p q = let z : _≡_ {A = ℕ} 0 1 = cc in omega arith

@@ -2,7 +2,7 @@
 -- Assumes nothing.
 use mathlib.Core.Path.{_≡_, refl, ap, _∙_}
 use mathlib.Core.Bool.{Bool, true, false}
-use Prim.Native.Nat.{ℕ, suc, _-_, _<_}
+use Prim.Native.Nat.{ℕ, suc, _-_, _<_, _≤_}
 use mathlib.Core.Logic.{_⊎_, inl, inr}
 use native.Mathlib.Numerals.{sub-one}
 use native.Mathlib.Omega.{arith}
@@ -14,6 +14,7 @@ use Rattle.rules.specs.Rows.{Row, end, step, stop, leave, leaveIf, ifThen, ifEl
 use Rattle.rules.proofs.Shapes.{shape-tells}
 use Rattle.rules.proofs.RowTree.{parse-complete, no-else-arm}
 use Rattle.rows.specs.Tree.{HasRow, treeFound, treeOf}
+use Rattle.rows.specs.Opens.{Behind, BreakAt, IfAt, ElseAt, LoopAt}
 
 -- a row that is one with no Loop around is one with a Loop around
 pub with-loop : (op : ℕ → ℕ) (l : Bool) (i to : ℕ) (r : Row) → IsRow op l i to r → IsRow op true i to r
@@ -38,62 +39,33 @@ tree-is op l i to r w = ap treeFound (parse-complete (to - i) op true i to r (om
 pub tree-empty : (op : ℕ → ℕ) (i : ℕ) → treeOf op i i ≡ end
 tree-empty op i = tree-is op true i i end refl
 
+-- a row that starts no earlier than it ends is empty
+pub row-end : (op : ℕ → ℕ) (l : Bool) (i to : ℕ) (r : Row) → IsRow op l i to r → to ≤ i → i ≡ to
+row-end op l i to end w h = w
+row-end op l i to (step j r) w h = omega arith
+row-end op l i to (stop j r) w h = omega arith
+row-end op l i to (leave j r) w h = omega arith
+row-end op l i to (leaveIf j r) w h = omega arith
+row-end op l i to (ifThen j t p r) w h = omega arith
+row-end op l i to (ifElse j e t p q r) w h = omega arith
+row-end op l i to (loop j e b r) w h = omega arith
+
 -- What a row is, by the shape of its first op: its parts, and its tree made of theirs.
 module _ (op : ℕ → ℕ) (l : Bool) (i to : ℕ) where
-  -- one op, and the rest
-  pub record Behind (first : ℕ → Row → Row) : Type 0 where
-    pub rest : HasRow op l (suc i) to
-    pub tree : treeOf op i to ≡ first i (treeOf op (suc i) to)
-
-  pub record BreakAt (first : ℕ → Row → Row) : Type 0 where
-    pub in-loop : l ≡ true
-    pub behind : Behind first
-
-  -- If t with EndIf at t
-  pub record IfAt (t : ℕ) : Type 0 where
-    pub target : i < t
-    pub within : t < to
-    pub closed : kind (op t) ≡ 23
-    pub no-else : eqb (kind (op (t - 1))) 22 ≡ false
-    pub arm : HasRow op l (suc i) t
-    pub rest : HasRow op l (suc t) to
-    pub tree : treeOf op i to ≡ ifThen i t (treeOf op (suc i) t) (treeOf op (suc t) to)
-
-  -- If with Else at e and EndIf at f
-  pub record ElseAt (e f : ℕ) : Type 0 where
-    pub target : i < e
-    pub else-behind : e < f
-    pub within : f < to
-    pub is-else : eqb (kind (op e)) 22 ≡ true
-    pub closed : kind (op f) ≡ 23
-    pub arm : HasRow op l (suc i) e
-    pub other : HasRow op l (suc e) f
-    pub rest : HasRow op l (suc f) to
-    pub tree : treeOf op i to ≡ ifElse i e f (treeOf op (suc i) e) (treeOf op (suc e) f) (treeOf op (suc f) to)
-
-  -- Loop with EndLoop at e
-  pub record LoopAt (e : ℕ) : Type 0 where
-    pub target : i < e
-    pub within : e < to
-    pub closed : kind (op e) ≡ 25
-    pub body : HasRow op true (suc i) e
-    pub rest : HasRow op l (suc e) to
-    pub tree : treeOf op i to ≡ loop i e (treeOf op (suc i) e) (treeOf op (suc e) to)
-
   abbrev pub OpensAs : Shape → Type 0
-  OpensAs plain = Behind step
-  OpensAs trap = Behind stop
-  OpensAs returns = Behind stop
-  OpensAs (ifTo t) = IfAt t ⊎ ElseAt (t - 1) (fieldA (op (t - 1)))
+  OpensAs plain = Behind op l i to step
+  OpensAs trap = Behind op l i to stop
+  OpensAs returns = Behind op l i to stop
+  OpensAs (ifTo t) = IfAt op l i to t ⊎ ElseAt op l i to (t - 1) (fieldA (op (t - 1)))
   OpensAs (elseTo e) = ⊥
   OpensAs endIf = ⊥
-  OpensAs (loopTo t) = LoopAt (t - 1)
+  OpensAs (loopTo t) = LoopAt op l i to (t - 1)
   OpensAs endLoop = ⊥
-  OpensAs breaks = BreakAt leave
-  OpensAs breaksIf = BreakAt leaveIf
-  OpensAs (calls k) = Behind step
+  OpensAs breaks = BreakAt op l i to leave
+  OpensAs breaksIf = BreakAt op l i to leaveIf
+  OpensAs (calls k) = Behind op l i to step
 
-  as-plain : (s : Shape) → Plain s → Behind step → OpensAs s
+  as-plain : (s : Shape) → Plain s → Behind op l i to step → OpensAs s
   as-plain plain p b = b
   as-plain trap p b = absurd p
   as-plain returns p b = absurd p
@@ -106,7 +78,7 @@ module _ (op : ℕ → ℕ) (l : Bool) (i to : ℕ) where
   as-plain breaksIf p b = absurd p
   as-plain (calls k) p b = b
 
-  as-ending : (s : Shape) → Ending s → Behind stop → OpensAs s
+  as-ending : (s : Shape) → Ending s → Behind op l i to stop → OpensAs s
   as-ending plain p b = absurd p
   as-ending trap p b = b
   as-ending returns p b = b
@@ -119,7 +91,7 @@ module _ (op : ℕ → ℕ) (l : Bool) (i to : ℕ) where
   as-ending breaksIf p b = absurd p
   as-ending (calls k) p b = absurd p
 
-  behind : (first : ℕ → Row → Row) (j : ℕ) (r : Row) → IsRow op l i to (first j r) → j ≡ i → IsRow op l (suc i) to r → Behind first
+  behind : (first : ℕ → Row → Row) (j : ℕ) (r : Row) → IsRow op l i to (first j r) → j ≡ i → IsRow op l (suc i) to r → Behind op l i to first
   behind first j r w e v =
       let b = tree-is op l (suc i) to r v in
       record { rest = (r, v); tree = tree-is op l i to (first j r) w ∙ rw (e, b) }

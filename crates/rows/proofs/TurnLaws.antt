@@ -15,7 +15,8 @@ use Rattle.rows.specs.declared.check.Opening.{Opening}
 use Rattle.rows.specs.declared.check.Opening.the-variants.{Plain, Block, Loop, Crossed}
 use Rattle.rows.specs.Tree.{HasRow}
 use Rattle.rows.specs.Answers.{blockIf, loopIf, opensIf, opensLoop, opensAt}
-use Rattle.rows.proofs.TreeLaws.{OpensAs, IfAt, ElseAt, opens}
+use Rattle.rows.proofs.TreeLaws.{OpensAs, opens}
+use Rattle.rows.specs.Opens.{IfAt, ElseAt}
 
 both : (a b : Bool) → a && b ≡ true → (a ≡ true) × (b ≡ true)
 both true b e = (refl, e)

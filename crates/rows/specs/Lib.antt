@@ -1,2 +1,3 @@
 pub mod Tree
+pub mod Opens
 pub mod Answers

@@ -4,10 +4,14 @@ use crate::range::Range;
 use crate::range::RangeAnswer;
 use crate::range::check_forward_control_flow_targets;
 use crate::range::range_of;
+use words::fields;
+use words::kinds;
+use words::refusals;
 ghost use mathlib.Core.Path.{_≡_};
 ghost use mathlib.Core.Bool.{false};
 ghost use Prim.Native.Nat.{_*_, _-_, _≤_, _<_};
 ghost use lib.ListN.{length};
+ghost use Rattle.rules.specs.Limits.{mostWords};
 ghost use Rattle.rules.specs.Ops.{opAt};
 ghost use Rattle.rules.specs.Rows.{parse};
 ghost use Rattle.rows.specs.Tree.{isRow};
@@ -30,14 +34,14 @@ fn opens_if(ops: &[u32], i: usize, t: usize, to: usize) -> Opening
         return Opening::Crossed;
     }
     let e = t - 1;
-    if ops[e] / 16777216 == 22 {
-        let f = (ops[e] % 65536) as usize;
-        if e < f && f < to && ops[f] / 16777216 == 23 {
+    if ops[e] / fields::KIND_UNIT == kinds::ELSE {
+        let f = (ops[e] % fields::B_UNIT) as usize;
+        if e < f && f < to && ops[f] / fields::KIND_UNIT == kinds::END_IF {
             return Opening::Block(e);
         }
         return Opening::Crossed;
     }
-    if t < to && ops[t] / 16777216 == 23 {
+    if t < to && ops[t] / fields::KIND_UNIT == kinds::END_IF {
         return Opening::Block(t);
     }
     Opening::Crossed
@@ -51,7 +55,7 @@ fn opens_loop(ops: &[u32], i: usize, t: usize, to: usize) -> Opening
     if t <= i + 1 || to < t {
         return Opening::Crossed;
     }
-    if ops[t - 1] / 16777216 == 25 {
+    if ops[t - 1] / fields::KIND_UNIT == kinds::END_LOOP {
         return Opening::Loop(t - 1);
     }
     Opening::Crossed
@@ -63,18 +67,18 @@ fn opens_at(ops: &[u32], i: usize, to: usize, in_loop: bool) -> Opening
     ensures { λ r. ⌜ r ≡ opensAt (opAt (now (ops .entry))) i to in_loop ⌝ }
 {
     let w = ops[i];
-    let k = w / 16777216;
-    let t = (w % 65536) as usize;
-    if k < 21 || 27 < k {
+    let k = w / fields::KIND_UNIT;
+    let t = (w % fields::B_UNIT) as usize;
+    if k < kinds::IF || kinds::BREAK_IF < k {
         return Opening::Plain;
     }
-    if k == 21 {
+    if k == kinds::IF {
         return opens_if(ops, i, t, to);
     }
-    if k == 24 {
+    if k == kinds::LOOP {
         return opens_loop(ops, i, t, to);
     }
-    if 26 <= k && in_loop {
+    if kinds::BREAK <= k && in_loop {
         return Opening::Plain;
     }
     Opening::Crossed
@@ -83,7 +87,7 @@ fn opens_at(ops: &[u32], i: usize, to: usize, in_loop: bool) -> Opening
 // Whether the positions from `from` up to `to` are a row, in a lent array: a block takes two ops, so half the range is room enough. A block that is
 // open keeps the position at which its part ends; there an Else goes on to its own target, and EndIf and EndLoop close the block.
 fn row_within(ops: &[u32], from: usize, to: usize, ends: &mut [u32]) -> bool
-    requires { ⌜ (from ≤ to) × (to ≤ length (now ops)) × (length (now ops) ≤ 16384) × (to - from ≤ 2 * length (now ends)) ⌝ }
+    requires { ⌜ (from ≤ to) × (to ≤ length (now ops)) × (length (now ops) ≤ mostWords) × (to - from ≤ 2 * length (now ends)) ⌝ }
     ensures { λ r. ⌜ r ≡ isRow (parse (to - from) (opAt (now (ops .entry))) false from to) ⌝ }
 {
     let mut depth: usize = 0;
@@ -109,11 +113,11 @@ fn row_within(ops: &[u32], from: usize, to: usize, ends: &mut [u32]) -> bool
                 }
                 Opening::Crossed => return false,
             }
-        } else if ops[i] / 16777216 == 22 {
-            ends[depth - 1] = ops[i] % 65536;
+        } else if ops[i] / fields::KIND_UNIT == kinds::ELSE {
+            ends[depth - 1] = ops[i] % fields::B_UNIT;
         } else {
             depth -= 1;
-            if ops[i] / 16777216 == 25 {
+            if ops[i] / fields::KIND_UNIT == kinds::END_LOOP {
                 loops -= 1;
             }
         }
@@ -125,7 +129,7 @@ fn row_within(ops: &[u32], from: usize, to: usize, ends: &mut [u32]) -> bool
 // Whether the positions from `from` up to `to` are a row. To make the largest array takes longer than to check a small range, so a small range has a
 // small one.
 pub fn is_row(ops: &[u32], from: usize, to: usize) -> bool
-    requires { ⌜ (from ≤ to) × (to ≤ length (now ops)) × (length (now ops) ≤ 16384) ⌝ }
+    requires { ⌜ (from ≤ to) × (to ≤ length (now ops)) × (length (now ops) ≤ mostWords) ⌝ }
     ensures { λ r. ⌜ r ≡ isRow (parse (to - from) (opAt (now (ops .entry))) false from to) ⌝ }
 {
     if to - from <= 64 {
@@ -148,7 +152,7 @@ pub enum RowAnswer {
 
 // The tests before a walk, in their order: 3, 4, 5, 6.
 pub fn chunk_row(mode: u32, ops: &[u32]) -> RowAnswer
-    requires { ⌜ length (now ops) ≤ 16384 ⌝ }
+    requires { ⌜ length (now ops) ≤ mostWords ⌝ }
     ensures { λ r. ⌜ rowResult r ≡ rangeRow mode (now (ops .entry)) ⌝ }
 {
     let found = range_of(mode, ops);
@@ -160,11 +164,14 @@ pub fn chunk_row(mode: u32, ops: &[u32]) -> RowAnswer
     };
     let backward = check_forward_control_flow_targets(ops);
     if let Found::At(place) = backward {
-        return RowAnswer::Refused { number: 5, place };
+        return RowAnswer::Refused {
+            number: refusals::BACKWARD,
+            place,
+        };
     }
     if !is_row(ops, range.from, range.to) {
         return RowAnswer::Refused {
-            number: 6,
+            number: refusals::CROSSED,
             place: 0,
         };
     }

@@ -1,4 +1,7 @@
 // The walked range of a chunk, and forward targets.
+use words::fields;
+use words::kinds;
+use words::refusals;
 ghost use mathlib.Core.Path.{_≡_};
 ghost use lib.Dec.{eqb};
 ghost use lib.ListN.{length};
@@ -29,7 +32,7 @@ fn first_of(ops: &[u32], kind: u32) -> Found
 {
     let mut i = 0;
     while i < ops.len() {
-        if ops[i] / 16777216 == kind {
+        if ops[i] / fields::KIND_UNIT == kind {
             return Found::At(i);
         }
         i += 1;
@@ -47,13 +50,13 @@ pub fn range_of(mode: u32, ops: &[u32]) -> RangeAnswer
             to: ops.len(),
         });
     }
-    let stream = first_of(ops, 28);
+    let stream = first_of(ops, kinds::STREAM);
     let Found::At(s) = stream else {
-        return RangeAnswer::Refused(3);
+        return RangeAnswer::Refused(refusals::NO_STREAM);
     };
-    let reset = first_of(ops, 29);
+    let reset = first_of(ops, kinds::RESET);
     let Found::At(r) = reset else {
-        return RangeAnswer::Refused(4);
+        return RangeAnswer::Refused(refusals::NO_RESET);
     };
     if r <= s {
         return RangeAnswer::Is(Range {
@@ -68,11 +71,11 @@ pub fn range_of(mode: u32, ops: &[u32]) -> RangeAnswer
 fn is_backward(n: usize, i: usize, w: u32) -> bool
     ensures { λ r. ⌜ r ≡ isBackward n i w ⌝ }
 {
-    let k = w / 16777216;
-    if k != 21 && k != 22 && k != 24 {
+    let k = w / fields::KIND_UNIT;
+    if k != kinds::IF && k != kinds::ELSE && k != kinds::LOOP {
         return false;
     }
-    let target = (w % 65536) as usize;
+    let target = (w % fields::B_UNIT) as usize;
     target <= i || n < target
 }
 

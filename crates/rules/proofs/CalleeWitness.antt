@@ -13,7 +13,8 @@ use Rattle.rules.specs.Form.{integer, Chunk, moduleWords}
 use Rattle.rules.specs.Reading.{brokenAt, takeWhile, dropWhile, constantsOf, extrasOf, chunksOf}
 use Rattle.rules.specs.Rows.{parse, firstBackward}
 use Rattle.rules.specs.Count.{lastSet, neverSets}
-use Rattle.rules.specs.Cycles.{cycleCap, rowCost}
+use Rattle.rules.specs.Limits.{cycleCap}
+use Rattle.rules.specs.Cycles.{rowCost}
 use Rattle.rules.specs.Stack.{rowHeight}
 use Rattle.rules.specs.Order.{member, calleesIn, visitEach, visit, upFrom}
 use Rattle.rules.specs.Sheet.{Sheet, linesIn}

@@ -11,7 +11,8 @@ use Rattle.rules.specs.Outcome.{Result, ok, no, andThen}
 use Rattle.rules.specs.Form.{Chunk}
 use Rattle.rules.specs.Rows.{Row, end, step, stop, leave, leaveIf, ifThen, ifElse, loop}
 use Rattle.rules.specs.Count.{countOf}
-use Rattle.rules.specs.Cycles.{Breaks, unbroken, costliest, noteBreak, breakCost, Cost, costs, inner, unlessEnds, onePass, passesCost, rowCost, chargeOf, exactCost, cappedCost, deepest}
+use Rattle.rules.specs.Limits.{deepest}
+use Rattle.rules.specs.Cycles.{Breaks, unbroken, costliest, noteBreak, breakCost, Cost, costs, inner, unlessEnds, onePass, passesCost, rowCost, chargeOf, exactCost, cappedCost}
 
 -- sums, products by a count, greatest
 pub cap-sum : (cap a b : ℕ) → min cap (min cap a + min cap b) ≡ min cap (a + b)

@@ -14,7 +14,7 @@ use Rattle.rules.specs.Form.{Chunk}
 use Rattle.rules.specs.Rows.{Shape, plain, trap, returns, ifTo, elseTo, endIf, loopTo, endLoop, breaks, breaksIf, calls, shapeOf}
 use Rattle.rules.specs.Rows.{rangeOf, forwardTargets}
 use Rattle.rules.specs.Count.{countOf}
-use Rattle.rules.specs.Cycles.{deepest}
+use Rattle.rules.specs.Limits.{deepest}
 use Rattle.rules.specs.Stack.{Height, Stack, rowHeight, bytesOf, calleeSlots, callRise, riseOf, moveOf, unlessTall}
 use Rattle.rules.specs.Order.{consIf, calleesIn, chunkAt, Calls}
 use Rattle.rules.specs.Sheet.{Line, noLine}

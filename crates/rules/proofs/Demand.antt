@@ -4,7 +4,8 @@ use mathlib.Core.Path.{_≡_, refl, ap}
 use Prim.Native.Nat.{ℕ, min}
 use native.Mathlib.Omega.{arith}
 use Rattle.rules.specs.Outcome.{Result, ok, no}
-use Rattle.rules.specs.Cycles.{Cost, cycleCap, exactCost}
+use Rattle.rules.specs.Limits.{cycleCap}
+use Rattle.rules.specs.Cycles.{Cost, exactCost}
 use Rattle.rules.specs.Order.{chunkAt}
 use Rattle.rules.specs.Sheet.{Line}
 use Rattle.rules.specs.Claims.{CyclesBounded, StackBounded}

@@ -11,10 +11,11 @@ use lib.Seq.{getD-set-same, getD-set-other}
 use Rattle.rules.specs.Outcome.{ok, answer, followedBy, inChunk, demand}
 use Rattle.rules.specs.Form.{Chunk}
 use Rattle.rules.specs.Rows.{Row, chunkRow}
-use Rattle.rules.specs.Cycles.{Cost, cappedCost, cycleCap}
+use Rattle.rules.specs.Limits.{cycleCap}
+use Rattle.rules.specs.Cycles.{Cost, cappedCost}
 use Rattle.rules.specs.Stack.{Stack, rowStack}
 use Rattle.rules.specs.Order.{Listing, listed, ring, callOrder, chunkAt, member, Calls, Distinct}
-use Rattle.rules.specs.Sheet.{Line, lineOf, chunkLine, noLine, bytesList, linesIn, Sheet, sheetOf, ringOutcome}
+use Rattle.rules.specs.Sheet.{lineWidth, Line, lineOf, chunkLine, noLine, bytesList, linesIn, Sheet, sheetOf, ringOutcome}
 use Rattle.rules.specs.Claims.{Accepted}
 use Rattle.rules.proofs.Answers.{from-ok, from-answer, from-chunk}
 use Rattle.rules.proofs.Members.{In, none, apart, not-nil, in-cons, in-head, in-tail, in-behind}
@@ -126,7 +127,7 @@ sheet-lines cs s e c lt =
     line-parts cs (s .lines) (f .0) c (omega (arith, f .1)) (f .2) (λ k calls. f .3 k (good .behind (place .0) (place .1) c k (place .2) calls))
 
 pub accepted-sheet : {words : List ℕ} {room : ℕ} {cs : List Chunk} {s : Sheet} → Accepted words room cs s → sheetOf cs ≡ answer s
-accepted-sheet {words} {room} {cs} {s} a = go (leb (3 * length cs) room) (rw (a .reads) at (a .answers))
+accepted-sheet {words} {room} {cs} {s} a = go (leb (lineWidth * length cs) room) (rw (a .reads) at (a .answers))
   where
     go : (b : Bool) → followedBy (inChunk 0 (demand b 13 0 cs)) (λ ds. sheetOf ds) ≡ answer s → sheetOf cs ≡ answer s
     go true e = e

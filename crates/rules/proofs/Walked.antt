@@ -11,7 +11,8 @@ use Rattle.rules.specs.Reading.{extraAt}
 use Rattle.rules.specs.Count.{hasHeader, hasTail, countAt, countIf, orNoCount, countOf}
 use Rattle.rules.specs.Rows.{Row, end, step, stop, leave, leaveIf, ifThen, ifElse, loop}
 use Rattle.rules.specs.Cycles.{Breaks, unbroken, costliest, noteBreak, breakCost, Cost, costs, inner, unlessEnds, onePass, passesCost, rowCost}
-use Rattle.rules.specs.Cycles.{textCharge, chargeOf, exactCost, deepest}
+use Rattle.rules.specs.Limits.{deepest}
+use Rattle.rules.specs.Cycles.{textCharge, chargeOf, exactCost}
 
 -- some break was met
 abbrev pub Broken : Breaks → Type 0

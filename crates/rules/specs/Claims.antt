@@ -6,7 +6,7 @@ use Prim.Native.Nat.{ℕ, _<_, _≤_, min}
 use lib.ListN.{length, getD}
 use Rattle.rules.specs.Outcome.{answer}
 use Rattle.rules.specs.Form.{Chunk}
-use Rattle.rules.specs.Cycles.{cycleCap}
+use Rattle.rules.specs.Limits.{cycleCap}
 use Rattle.rules.specs.Sheet.{Line, noLine, Sheet, readModule, sheetOutcome}
 use Rattle.rules.specs.Paths.{Way, begin, path, pathCycles, pathBytes, KeepsCounts, KeepsDepths}
 

@@ -6,6 +6,9 @@ use lib.Dec.{eqb, leb, ltb}
 use lib.IntN.{ℤ, pos, negsuc, _-ℤ_}
 use lib.ListN.{getD}
 use lib.Signed.{ltZ}
+use Rattle.rules.specs.Kinds as K
+use Rattle.rules.specs.Limits.{mostPasses}
+use Rattle.rules.specs.Numbers as N
 use Rattle.rules.specs.Outcome.{Result, ok, no, Found, found, nothing}
 use Rattle.rules.specs.Ops.{kind, fieldA, fieldB, opAt}
 use Rattle.rules.specs.Form.{Constant, integer, other, Chunk}
@@ -16,10 +19,10 @@ pub data Value : Type 0 where
   unknown : Value
 
 abbrev pub isGetLocal : ℕ → ℕ → Bool
-isGetLocal slot w = eqb (kind w) 1 && eqb (fieldA w) slot
+isGetLocal slot w = eqb (kind w) K.GetLocal && eqb (fieldA w) slot
 
 abbrev pub isSetLocal : ℕ → ℕ → Bool
-isSetLocal slot w = eqb (kind w) 2 && eqb (fieldA w) slot
+isSetLocal slot w = eqb (kind w) K.SetLocal && eqb (fieldA w) slot
 
 -- "The search runs backward and ends at the first SetLocal of that slot": below position n
 unfoldable pub lastSet : List ℕ → ℕ → ℕ → Found
@@ -32,12 +35,12 @@ arrayCopy false next w = unknown
 
 abbrev pub arrayLiteral : Bool → (ℕ → Value) → ℕ → Value
 arrayLiteral true next w = is (pos (fieldA w))
-arrayLiteral false next w = arrayCopy (eqb (kind w) 1) next w
+arrayLiteral false next w = arrayCopy (eqb (kind w) K.GetLocal) next w
 
 -- What stands right before an array's SetLocal: "NewComposite of kind 1 right before it, whose a is the length; an array copied from
 -- another local is followed to its literal"; `next` follows the local that is copied.
 abbrev pub arraySource : ℕ → (ℕ → Value) → Value
-arraySource w next = arrayLiteral (eqb (kind w) 34 && eqb (fieldB w) 1) next w
+arraySource w next = arrayLiteral (eqb (kind w) K.NewComposite && eqb (fieldB w) 1) next w
 
 abbrev pub atArraySet : Bool → (ℕ → Value) → (ℕ → Value) → ℕ → ℕ → Value
 atArraySet true copy down w slot = arraySource w copy
@@ -62,7 +65,7 @@ lengthBefore false ops i = unknown
 -- "GetLocal of an array and then Len": the GetLocal at i, Len right behind it
 abbrev pub lenSource : List ℕ → ℕ → Value
 lenSource ops zero = unknown
-lenSource ops (suc i) = lengthBefore (eqb (kind (opAt ops (suc i))) 39 && eqb (kind (opAt ops i)) 1) ops i
+lenSource ops (suc i) = lengthBefore (eqb (kind (opAt ops (suc i))) K.Len && eqb (kind (opAt ops i)) K.GetLocal) ops i
 
 abbrev pub valueBefore : Bool → List Constant → List ℕ → ℕ → Value
 valueBefore true constants ops i = constantValue (getD constants (fieldA (opAt ops i)) other)
@@ -72,7 +75,7 @@ valueBefore false constants ops i = lenSource ops i
 abbrev pub valueAt : List Constant → List ℕ → Found → Value
 valueAt constants ops nothing = unknown
 valueAt constants ops (found zero) = unknown
-valueAt constants ops (found (suc i)) = valueBefore (eqb (kind (opAt ops i)) 0) constants ops i
+valueAt constants ops (found (suc i)) = valueBefore (eqb (kind (opAt ops i)) K.Const) constants ops i
 
 -- "A value is searched from p."
 abbrev pub valueOf : List Constant → List ℕ → ℕ → ℕ → Value
@@ -81,8 +84,8 @@ valueOf constants ops p slot = valueAt constants ops (lastSet ops p slot)
 -- "behind Loop at p stand GetLocal v, GetLocal e, CmpGe, BreakIf: the header test"
 abbrev pub hasHeader : List ℕ → ℕ → Bool
 hasHeader ops p =
-    eqb (kind (opAt ops p)) 24 && eqb (kind (opAt ops (p + 1))) 1 && eqb (kind (opAt ops (p + 2))) 1
-    && eqb (kind (opAt ops (p + 3))) 19 && eqb (kind (opAt ops (p + 4))) 27
+    eqb (kind (opAt ops p)) K.Loop && eqb (kind (opAt ops (p + 1))) K.GetLocal && eqb (kind (opAt ops (p + 2))) K.GetLocal
+    && eqb (kind (opAt ops (p + 3))) K.CmpGe && eqb (kind (opAt ops (p + 4))) K.BreakIf
 
 -- none of the n ops from position i on is a SetLocal of the slot
 unfoldable pub neverSets : List ℕ → ℕ → ℕ → ℕ → Bool
@@ -97,14 +100,14 @@ isPositive other = false
 -- SetLocal v; from p + 5 to it there is no SetLocal e and no other SetLocal v" (`loop_body_advances_induction`). EndLoop is at n.
 abbrev pub hasTail : List Constant → List ℕ → ℕ → ℕ → ℕ → ℕ → Bool
 hasTail constants ops p n v e =
-    leb (p + 10) n && eqb (kind (opAt ops n)) 25 && isGetLocal v (opAt ops (n - 5)) && eqb (kind (opAt ops (n - 4))) 0
-    && isPositive (getD constants (fieldA (opAt ops (n - 4))) other) && eqb (kind (opAt ops (n - 3))) 51
-    && eqb (kind (opAt ops (n - 2))) 58 && eqb (fieldB (opAt ops (n - 2))) 2 && isSetLocal v (opAt ops (n - 1))
+    leb (p + 10) n && eqb (kind (opAt ops n)) K.EndLoop && isGetLocal v (opAt ops (n - 5)) && eqb (kind (opAt ops (n - 4))) K.Const
+    && isPositive (getD constants (fieldA (opAt ops (n - 4))) other) && eqb (kind (opAt ops (n - 3))) K.CheckedAdd
+    && eqb (kind (opAt ops (n - 2))) K.PopN && eqb (fieldB (opAt ops (n - 2))) 2 && isSetLocal v (opAt ops (n - 1))
     && neverSets ops e (n - (p + 5)) (p + 5) && neverSets ops v (n - (p + 6)) (p + 5)
 
 -- "none if that leaves signed 64 bits or passes 4,294,967,295"
 abbrev pub distance : ℤ → Found
-distance (pos n) = cond (ltb n (2 ^ 63) && leb n 4294967295) (found n) nothing
+distance (pos n) = cond (ltb n (2 ^ 63) && leb n mostPasses) (found n) nothing
 distance (negsuc n) = nothing
 
 -- "The count is 0 if e's value is below v's, else their distance"
@@ -130,7 +133,7 @@ countAt constants ops p =
 
 abbrev pub orNoCount : Found → ℕ → Result ℕ
 orNoCount (found n) p = ok n
-orNoCount nothing p = no 9 p
+orNoCount nothing p = no N.noCount p
 
 -- "9 no count: visited loop needs one and has none, place Loop"
 abbrev pub countOf : Chunk → ℕ → Result ℕ

@@ -2,6 +2,8 @@
 use mathlib.Core.Bool.{Bool, true, false, _&&_}
 use Prim.Native.Nat.{ℕ, zero, suc, _+_, _*_, min, max}
 use lib.Dec.{eqb}
+use Rattle.rules.specs.Limits.{deepest, cycleCap, openText}
+use Rattle.rules.specs.Numbers as N
 use Rattle.rules.specs.Outcome.{Result, ok, no, andThen}
 use Rattle.rules.specs.Ops.{figuresOf, opAt}
 use Rattle.rules.specs.Form.{Chunk}
@@ -33,7 +35,7 @@ costs c e b = record { cycles = c; ends = e; breaks = b }
 
 -- "7 too deep: visited body past 256, place 0": one level less for a body
 abbrev pub inner : {A : Type 0} → ℕ → (ℕ → Result A) → Result A
-inner zero walk = no 7 0
+inner zero walk = no N.tooDeep 0
 inner (suc left) walk = walk left
 
 -- "it ends the row if both arms do", else the rest follows
@@ -94,17 +96,13 @@ module _ (cut : ℕ → ℕ) (charge count : ℕ → Result ℕ) where
 
 -- "8 open text: charged op with the greatest extra"
 abbrev pub textCharge : Bool → ℕ → ℕ → Result ℕ
-textCharge true i c = no 8 i
+textCharge true i c = no N.openText i
 textCharge false i c = ok c
 
 -- "charge is cycles plus extra"
 abbrev pub chargeOf : Chunk → ℕ → Result ℕ
 chargeOf c i =
-    textCharge (eqb (extraAt (c .extras) i) 4294967295) i (figuresOf (opAt (c .ops) i) .cycles + extraAt (c .extras) i)
-
--- "256 blocks in one another are walked. At the 257th: refusal 7."
-abbrev pub deepest : ℕ
-deepest = 256
+    textCharge (eqb (extraAt (c .extras) i) openText) i (figuresOf (opAt (c .ops) i) .cycles + extraAt (c .extras) i)
 
 -- the uncapped figure, and the one that stops at a cap
 abbrev pub exactCost : Chunk → Row → Result Cost
@@ -112,9 +110,6 @@ exactCost c r = rowCost (λ n. n) (chargeOf c) (countOf c) r deepest 0 unbroken
 
 abbrev pub cappedCost : ℕ → Chunk → Row → Result Cost
 cappedCost cap c r = rowCost (min cap) (chargeOf c) (countOf c) r deepest 0 unbroken
-
-abbrev pub cycleCap : ℕ
-cycleCap = 4294967295
 
 -- the answer of the cycle walk: the cycles, and whether the row ends. No break leads out of a range, so none is left to tell.
 pub record Cycles : Type 0 where

@@ -1,3 +1,6 @@
+pub mod Kinds
+pub mod Limits
+pub mod Numbers
 pub mod Outcome
 pub mod Ops
 pub mod Form

@@ -4,25 +4,27 @@ use mathlib.Core.List.{List, [], _∷_}
 use Prim.Native.Nat.{ℕ, _+_, _*_, _/_, _%_}
 use lib.Dec.{eqb, leb}
 use lib.ListN.{getD}
+use Rattle.rules.specs.Kinds as K
+use Rattle.rules.specs.Limits.{kindUnit, bUnit, bValues, noOp}
 
 -- "A 32-bit word is kind (bits 24..31), b (bits 16..23), a (bits 0..15)." A number of more than 32 bits has a kind over 255, which
 -- is the kind of nothing.
 abbrev pub kind : ℕ → ℕ
-kind w = w / 16777216
+kind w = w / kindUnit
 
 abbrev pub fieldB : ℕ → ℕ
-fieldB w = w / 65536 % 256
+fieldB w = w / bUnit % bValues
 
 abbrev pub fieldA : ℕ → ℕ
-fieldA w = w % 65536
+fieldA w = w % bUnit
 
 -- the word of a kind with its fields b and a
 abbrev pub word : ℕ → ℕ → ℕ → ℕ
-word k b a = k * 16777216 + b * 65536 + a
+word k b a = k * kindUnit + b * bUnit + a
 
 -- The op of a list at a position; past the end a word that is no op.
 abbrev pub opAt : List ℕ → ℕ → ℕ
-opAt ops i = getD ops i 4294967295
+opAt ops i = getD ops i noOp
 
 -- "Ops as kind: cycles/growth/shrink."
 pub record Figures : Type 0 where
@@ -90,23 +92,24 @@ nativeFigures b = figures 10 (cond (leb 128 b) 2 1) (b % 128)
 -- else the table.
 abbrev pub figuresOf : ℕ → Figures
 figuresOf w =
-    cond (eqb (kind w) 30) (figures 10 1 (fieldB w))
-    (cond (eqb (kind w) 34) (figures 5 1 (fieldA w))
-    (cond (eqb (kind w) 36) (indexFigures (fieldB w))
-    (cond (eqb (kind w) 50) (trapFigures (fieldA w))
-    (cond (eqb (kind w) 58) (figures 1 0 (fieldB w))
-    (cond (between 64 65 (kind w)) (nativeFigures (fieldB w)) (inGroups table (kind w)))))))
+    cond (eqb (kind w) K.Call) (figures 10 1 (fieldB w))
+    (cond (eqb (kind w) K.NewComposite) (figures 5 1 (fieldA w))
+    (cond (eqb (kind w) K.GetIndex) (indexFigures (fieldB w))
+    (cond (eqb (kind w) K.Trap) (trapFigures (fieldA w))
+    (cond (eqb (kind w) K.PopN) (figures 1 0 (fieldB w))
+    (cond (between K.CallVerifiedNative K.CallExternalNative (kind w)) (nativeFigures (fieldB w)) (inGroups table (kind w)))))))
 
 -- "Field a: index, slot or target of 0, 1, 2, 21, 22, 24..27, 30, 64, 65; count of 34; code of 50."
 abbrev pub usesA : ℕ → Bool
 usesA k =
-    between 0 2 k || between 21 22 k || between 24 27 k || eqb k 30 || between 64 65 k || eqb k 34 || eqb k 50
+    between K.Const K.SetLocal k || between K.If K.Else k || between K.Loop K.BreakIf k || eqb k K.Call || between K.CallVerifiedNative K.CallExternalNative k || eqb k K.NewComposite || eqb k K.Trap
 
 -- The greatest b: the arguments of 30, 64, 65 and the count of 58 are free; "34 and 36 take no other b" than 0..3 and 0, 1; else 0.
 abbrev pub greatestB : ℕ → ℕ
 greatestB k =
-    cond (eqb k 30 || eqb k 58 || between 64 65 k) 255 (cond (eqb k 34) 3 (cond (eqb k 36) 1 0))
+    cond (eqb k K.Call || eqb k K.PopN || between K.CallVerifiedNative K.CallExternalNative k) 255
+    (cond (eqb k K.NewComposite) 3 (cond (eqb k K.GetIndex) 1 0))
 
 -- "An op is one word." "Op fields not named here are 0."
 abbrev pub isOp : ℕ → Bool
-isOp w = leb (kind w) 65 && leb (fieldB w) (greatestB (kind w)) && (usesA (kind w) || eqb (fieldA w) 0)
+isOp w = leb (kind w) K.CallExternalNative && leb (fieldB w) (greatestB (kind w)) && (usesA (kind w) || eqb (fieldA w) 0)

@@ -5,6 +5,7 @@ use mathlib.Core.List.{List, [], _∷_, _++_}
 use Prim.Native.Nat.{ℕ, zero, suc, _<_}
 use lib.Dec.{eqb, ltb}
 use lib.ListN.{length, getD}
+use Rattle.rules.specs.Kinds as K
 use Rattle.rules.specs.Ops.{kind, fieldA}
 use Rattle.rules.specs.Form.{Chunk}
 
@@ -28,7 +29,7 @@ consIf false k ks = ks
 -- "the callees of all its Calls by position"
 unfoldable pub calleesIn : List ℕ → List ℕ
 calleesIn [] = []
-calleesIn (w ∷ ws) = consIf (eqb (kind w) 30) (fieldA w) (calleesIn ws)
+calleesIn (w ∷ ws) = consIf (eqb (kind w) K.Call) (fieldA w) (calleesIn ws)
 
 abbrev pub noChunk : Chunk
 noChunk = record { locals = 0; type = 0; constants = []; ops = []; extras = [] }

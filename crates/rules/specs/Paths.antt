@@ -7,6 +7,7 @@ use lib.Dec.{eqb, leb, ltb}
 use lib.IntN.{ℤ, pos, _+ℤ_, _-ℤ_}
 use lib.ListN.{length}
 use lib.Signed.{leZ}
+use Rattle.rules.specs.Kinds as K
 use Rattle.rules.specs.Outcome.{Result, ok, no, found}
 use Rattle.rules.specs.Ops.{kind, fieldA, fieldB, figuresOf, opAt}
 use Rattle.rules.specs.Form.{Chunk}
@@ -183,7 +184,7 @@ module _ (cs : List Chunk) where
   -- the depth at the start of the callee that the op runs, at least 0; callees are run
   abbrev pub startDepth : Frame → ℕ
   startDepth f =
-      cond (eqb (kind (opOf f)) 30 && ltb (fieldA (opOf f)) (length cs)) (atLeastZero (calleeFrame (fieldA (opOf f)) f .base)) 0
+      cond (eqb (kind (opOf f)) K.Call && ltb (fieldA (opOf f)) (length cs)) (atLeastZero (calleeFrame (fieldA (opOf f)) f .base)) 0
 
   -- "the greatest depth, at least 0, at any op or callee's start", callees run
   unfoldable pub pathDepth : List Frame → ℕ

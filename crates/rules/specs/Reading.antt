@@ -6,6 +6,9 @@ use Prim.Native.Nat.{ℕ, zero, suc, _+_, _*_, _-_, _^_}
 use lib.Dec.{eqb, leb, ltb}
 use lib.IntN.{ℤ, pos, negsuc}
 use lib.ListN.{length}
+use Rattle.rules.specs.Kinds as K
+use Rattle.rules.specs.Limits.{bUnit, mostWords, mostChunks}
+use Rattle.rules.specs.Numbers as N
 use Rattle.rules.specs.Outcome.{Result, ok, no, Found, found, nothing, andThen, demand}
 use Rattle.rules.specs.Ops.{kind, fieldA, fieldB, isOp}
 use Rattle.rules.specs.Form.{Constant, integer, other, Chunk}
@@ -39,19 +42,19 @@ orElse stuck m = m
 
 -- "one word of kind 199 (a: chunk count 1..256, b 0)"
 abbrev pub isHead : ℕ → Bool
-isHead w = eqb (kind w) 199 && eqb (fieldB w) 0 && leb 1 (fieldA w) && leb (fieldA w) 256
+isHead w = eqb (kind w) K.Module && eqb (fieldB w) 0 && leb 1 (fieldA w) && leb (fieldA w) mostChunks
 
 -- "kind 200 (a: locals; b: 0 Func, 1 Reentrant, 2 Stream)"
 abbrev pub isChunk : ℕ → Bool
-isChunk w = eqb (kind w) 200 && leb (fieldB w) 2
+isChunk w = eqb (kind w) K.Chunk && leb (fieldB w) 2
 
 -- a word of a constant of kind k, with that b: "kind 203 with a 0"
 abbrev pub isConstant : ℕ → ℕ → ℕ → Bool
-isConstant k b w = eqb (kind w) k && eqb (fieldB w) b && (eqb k 202 || eqb (fieldA w) 0)
+isConstant k b w = eqb (kind w) k && eqb (fieldB w) b && (eqb k K.Integer || eqb (fieldA w) 0)
 
 -- "two words of kind 204, b 0 then 1"
 abbrev pub isExtra : ℕ → ℕ → Bool
-isExtra b w = eqb (kind w) 204 && eqb (fieldB w) b
+isExtra b w = eqb (kind w) K.Extra && eqb (fieldB w) b
 
 -- What may come next, and where that leads.
 abbrev pub chunkNext : ℕ → ℕ → Next
@@ -59,7 +62,7 @@ chunkNext zero w = stuck
 chunkNext (suc n) w = onlyIf (isChunk w) (inConstants n)
 
 abbrev pub constantNext : ℕ → ℕ → Next
-constantNext n w = orElse (onlyIf (isConstant 202 0 w) (inConstant 202 1 n)) (onlyIf (isConstant 203 0 w) (inConstant 203 1 n))
+constantNext n w = orElse (onlyIf (isConstant K.Integer 0 w) (inConstant K.Integer 1 n)) (onlyIf (isConstant K.Other 0 w) (inConstant K.Other 1 n))
 
 abbrev pub opNext : ℕ → ℕ → ℕ → Next
 opNext k n w = onlyIf (isOp w) (inOps (suc k) n)
@@ -107,13 +110,13 @@ dropWhile f [] = []
 dropWhile f (w ∷ ws) = cond (f w) (dropWhile f ws) (w ∷ ws)
 
 abbrev pub ofConstants : ℕ → Bool
-ofConstants w = eqb (kind w) 202 || eqb (kind w) 203
+ofConstants w = eqb (kind w) K.Integer || eqb (kind w) K.Other
 
 abbrev pub ofOps : ℕ → Bool
-ofOps w = leb (kind w) 65
+ofOps w = leb (kind w) K.CallExternalNative
 
 abbrev pub ofExtras : ℕ → Bool
-ofExtras w = eqb (kind w) 204
+ofExtras w = eqb (kind w) K.Extra
 
 -- two's complement at 64 bits: from 2^63 on, n stands for n - 2^64
 abbrev pub signedOf : ℕ → ℤ
@@ -122,7 +125,7 @@ signedOf n = cond (ltb n (2 ^ 63)) (pos n) (negsuc (2 ^ 64 - suc n))
 -- the constant that four words make
 abbrev pub constantOf : ℕ → ℕ → ℕ → ℕ → Constant
 constantOf s t u v =
-    cond (eqb (kind s) 202) (integer (signedOf (fieldA s + 65536 * (fieldA t + 65536 * (fieldA u + 65536 * fieldA v))))) other
+    cond (eqb (kind s) K.Integer) (integer (signedOf (fieldA s + bUnit * (fieldA t + bUnit * (fieldA u + bUnit * fieldA v))))) other
 
 unfoldable pub constantsOf : List ℕ → List Constant
 constantsOf [] = []
@@ -135,7 +138,7 @@ constantsOf (s ∷ t ∷ u ∷ v ∷ ws) = constantOf s t u v ∷ constantsOf ws
 unfoldable pub extrasOf : List ℕ → List ℕ
 extrasOf [] = []
 extrasOf (s ∷ []) = []
-extrasOf (s ∷ t ∷ ws) = (fieldA s + 65536 * fieldA t) ∷ extrasOf ws
+extrasOf (s ∷ t ∷ ws) = (fieldA s + bUnit * fieldA t) ∷ extrasOf ws
 
 -- The parts of a chunk whose head stands right before these words, and what is behind the chunk.
 abbrev pub constantPart : List ℕ → List ℕ
@@ -173,19 +176,19 @@ chunksOf (suc n) [] = []
 chunksOf (suc n) (head ∷ ws) = chunkOf head ws ∷ chunksOf n (behindChunk ws)
 
 abbrev pub unlessBroken : Found → (ℕ → List Chunk) → Result (List Chunk)
-unlessBroken (found p) chunks = no 2 p
+unlessBroken (found p) chunks = no N.badWord p
 unlessBroken nothing chunks = ok (chunks 0)
 
 -- The reading, the limit aside: "1 bad head: length 0 .. or first word wrong", "2 bad word: form broken".
 abbrev pub readAny : List ℕ → Result (List Chunk)
-readAny [] = no 1 0
+readAny [] = no N.badHead 0
 readAny (h ∷ ws) =
-    andThen (demand (isHead h) 1 0 h)
+    andThen (demand (isHead h) N.badHead 0 h)
     (λ g. unlessBroken (brokenAt (beforeChunk (fieldA h)) ws 1) (λ u. chunksOf (fieldA h) ws))
 
 -- "At most 16,384 words." "1 bad head: length 0 or over 16,384, or first word wrong, place 0"
 abbrev pub read : List ℕ → Result (List Chunk)
-read ws = andThen (demand (leb (length ws) 16384) 1 0 ws) (λ vs. readAny vs)
+read ws = andThen (demand (leb (length ws) mostWords) N.badHead 0 ws) (λ vs. readAny vs)
 
 -- "a missing one is 0"
 abbrev pub extraAt : List ℕ → ℕ → ℕ

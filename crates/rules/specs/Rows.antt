@@ -5,6 +5,8 @@ use mathlib.Core.List.{List, [], _∷_}
 use Prim.Native.Nat.{ℕ, zero, suc, _-_, _<_, max}
 use lib.Dec.{eqb, leb, ltb}
 use lib.ListN.{length}
+use Rattle.rules.specs.Kinds as K
+use Rattle.rules.specs.Numbers as N
 use Rattle.rules.specs.Outcome.{Result, ok, no, Found, found, nothing, andThen}
 use Rattle.rules.specs.Ops.{kind, fieldA, opAt}
 use Rattle.rules.specs.Form.{Chunk}
@@ -27,14 +29,14 @@ pub data Shape : Type 0 where
 -- operands of EndLoop, Break and BreakIf are not read."
 abbrev pub shapeOf : ℕ → Shape
 shapeOf w =
-    cond (eqb (kind w) 21) (ifTo (fieldA w))
-    (cond (eqb (kind w) 22) (elseTo (fieldA w))
-    (cond (eqb (kind w) 23) endIf
-    (cond (eqb (kind w) 24) (loopTo (fieldA w))
-    (cond (eqb (kind w) 25) endLoop
-    (cond (eqb (kind w) 26) breaks
-    (cond (eqb (kind w) 27) breaksIf
-    (cond (eqb (kind w) 30) (calls (fieldA w)) (cond (eqb (kind w) 31) returns (cond (eqb (kind w) 50) trap plain)))))))))
+    cond (eqb (kind w) K.If) (ifTo (fieldA w))
+    (cond (eqb (kind w) K.Else) (elseTo (fieldA w))
+    (cond (eqb (kind w) K.EndIf) endIf
+    (cond (eqb (kind w) K.Loop) (loopTo (fieldA w))
+    (cond (eqb (kind w) K.EndLoop) endLoop
+    (cond (eqb (kind w) K.Break) breaks
+    (cond (eqb (kind w) K.BreakIf) breaksIf
+    (cond (eqb (kind w) K.Call) (calls (fieldA w)) (cond (eqb (kind w) K.Return) returns (cond (eqb (kind w) K.Trap) trap plain)))))))))
 
 -- A row: its ops from the first on, each with its position; what stands inside an If, an Else or a Loop is a row again.
 pub data Row : Type 0 where
@@ -119,12 +121,12 @@ parsedIf false next i = crossed
 -- `rows inLoop from to` is the tree of the positions from `from` up to `to`.
 abbrev pub parseIf : (ℕ → ℕ) → (ℕ → ℕ → Parsed) → ℕ → ℕ → ℕ → Parsed
 parseIf op rows i t to =
-    parsedIf (ltb t to && eqb (kind (op t)) 23)
+    parsedIf (ltb t to && eqb (kind (op t)) K.EndIf)
     (λ j. onRow (rows (suc j) t) (λ p. onRow (rows (suc t) to) (λ r. row (ifThen j t p r)))) i
 
 abbrev pub parseElse : (ℕ → ℕ) → (ℕ → ℕ → Parsed) → ℕ → ℕ → ℕ → ℕ → Parsed
 parseElse op rows i e t to =
-    parsedIf (ltb e t && ltb t to && eqb (kind (op t)) 23)
+    parsedIf (ltb e t && ltb t to && eqb (kind (op t)) K.EndIf)
     (λ j. onRow (rows (suc j) e) (λ p. onRow (rows (suc e) t) (λ q. onRow (rows (suc t) to) (λ r. row (ifElse j e t p q r))))) i
 
 abbrev pub parseEither : Bool → (ℕ → ℕ) → (ℕ → ℕ → Parsed) → ℕ → ℕ → ℕ → Parsed
@@ -133,7 +135,7 @@ parseEither false op rows i t to = parseIf op rows i t to
 
 abbrev pub parseLoop : (ℕ → ℕ) → (Bool → ℕ → ℕ → Parsed) → Bool → ℕ → ℕ → ℕ → Parsed
 parseLoop op rows inLoop i e to =
-    parsedIf (ltb i e && ltb e to && eqb (kind (op e)) 25)
+    parsedIf (ltb i e && ltb e to && eqb (kind (op e)) K.EndLoop)
     (λ j. onRow (rows true (suc j) e) (λ b. onRow (rows inLoop (suc e) to) (λ r. row (loop j e b r)))) i
 
 abbrev pub parseOp : Shape → (ℕ → ℕ) → (Bool → ℕ → ℕ → Parsed) → Bool → ℕ → ℕ → Parsed
@@ -141,7 +143,7 @@ parseOp plain op rows inLoop i to = onRow (rows inLoop (suc i) to) (λ r. row (s
 parseOp trap op rows inLoop i to = onRow (rows inLoop (suc i) to) (λ r. row (stop i r))
 parseOp returns op rows inLoop i to = onRow (rows inLoop (suc i) to) (λ r. row (stop i r))
 parseOp (ifTo t) op rows inLoop i to =
-    parsedIf (ltb i t) (λ j. parseEither (eqb (kind (op (t - 1))) 22) op (rows inLoop) j t to) i
+    parsedIf (ltb i t) (λ j. parseEither (eqb (kind (op (t - 1))) K.Else) op (rows inLoop) j t to) i
 parseOp (elseTo e) op rows inLoop i to = crossed
 parseOp endIf op rows inLoop i to = crossed
 parseOp (loopTo t) op rows inLoop i to = parseLoop op rows inLoop i (t - 1) to
@@ -178,8 +180,8 @@ orRefuse nothing n = no n 0
 -- "3 no stream" and "4 no reset". Where Reset comes first no position is in between.
 abbrev pub streamRange : List ℕ → Result Range
 streamRange ops =
-    andThen (orRefuse (firstOf 28 ops 0) 3)
-    (λ s. andThen (orRefuse (firstOf 29 ops 0) 4) (λ r. ok (record { from = suc s; to = max (suc s) r })))
+    andThen (orRefuse (firstOf K.Stream ops 0) N.noStream)
+    (λ s. andThen (orRefuse (firstOf K.Reset ops 0) N.noReset) (λ r. ok (record { from = suc s; to = max (suc s) r })))
 
 abbrev pub rangeBy : Bool → List ℕ → Result Range
 rangeBy true ops = streamRange ops
@@ -190,7 +192,7 @@ rangeOf c = rangeBy (eqb (c .type) 2) (c .ops)
 
 -- "5 backward: any If, Else, Loop target not after it, or past the length": `n` is the length, i the position of the first op at hand
 abbrev pub hasTarget : ℕ → Bool
-hasTarget k = eqb k 21 || eqb k 22 || eqb k 24
+hasTarget k = eqb k K.If || eqb k K.Else || eqb k K.Loop
 
 abbrev pub isBackward : ℕ → ℕ → ℕ → Bool
 isBackward n i w = hasTarget (kind w) && (leb (fieldA w) i || ltb n (fieldA w))
@@ -205,11 +207,11 @@ unlessFound nothing n = ok 0
 
 -- `check_forward_control_flow_targets`: "5 .. first such op"
 abbrev pub forwardTargets : List ℕ → Result ℕ
-forwardTargets ops = unlessFound (firstBackward (length ops) 0 ops) 5
+forwardTargets ops = unlessFound (firstBackward (length ops) 0 ops) N.backward
 
 abbrev pub orCrossed : Parsed → Result Row
 orCrossed (row r) = ok r
-orCrossed crossed = no 6 0
+orCrossed crossed = no N.crossed 0
 
 -- "6 crossed: range no row"
 abbrev pub rowOf : List ℕ → Range → Result Row

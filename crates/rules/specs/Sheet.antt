@@ -3,12 +3,14 @@ use mathlib.Core.List.{List, [], _∷_, _++_, map}
 use Prim.Native.Nat.{ℕ, _*_}
 use lib.Dec.{leb, ltb}
 use lib.ListN.{length, set, drop, replicate}
+use Rattle.rules.specs.Limits.{mostChunks, cycleCap}
+use Rattle.rules.specs.Numbers as N
 use Rattle.rules.specs.Outcome.{Result, ok, Outcome, answer, refused, andThen, followedBy, inChunk, demand}
 use Rattle.rules.specs.Form.{Chunk}
 use Rattle.rules.specs.Reading.{read}
 use Rattle.rules.specs.Rows.{chunkRow}
 use Rattle.rules.specs.Count.{countOf}
-use Rattle.rules.specs.Cycles.{Cost, Cycles, chunkCycles, cappedCost, cycleCap}
+use Rattle.rules.specs.Cycles.{Cost, Cycles, chunkCycles, cappedCost}
 use Rattle.rules.specs.Stack.{Stack, chunkStack, rowStack}
 use Rattle.rules.specs.Order.{Listing, listed, ring, callOrder, chunkAt}
 
@@ -23,7 +25,7 @@ readOutcome ws = followedBy (readModule ws) (λ cs. answer (length cs))
 -- "12 no such chunk: index too great, place 0": the chunk is the index handed in
 abbrev pub chunkOutcome : List ℕ → ℕ → Outcome Chunk
 chunkOutcome ws c =
-    followedBy (readModule ws) (λ cs. inChunk c (demand (ltb c (length cs)) 12 0 (chunkAt cs c)))
+    followedBy (readModule ws) (λ cs. inChunk c (demand (ltb c (length cs)) N.noSuchChunk 0 (chunkAt cs c)))
 
 -- "The count alone, for any position handed in, tests 1, 2, 12, 9, the place being that position."
 abbrev pub countOutcome : List ℕ → ℕ → ℕ → Outcome ℕ
@@ -39,12 +41,12 @@ stackOutcome ws c callees = followedBy (chunkOutcome ws c) (λ k. inChunk c (chu
 
 -- "13 short tray: lent result buffer too small"
 abbrev pub withRoom : ℕ → ℕ → List Chunk → Outcome (List Chunk)
-withRoom room wanted cs = inChunk 0 (demand (leb wanted room) 13 0 cs)
+withRoom room wanted cs = inChunk 0 (demand (leb wanted room) N.shortTray 0 cs)
 
 -- "10 ring: calls in a circle, place 0; chunk met again"
 abbrev pub ringOutcome : Listing → Outcome (List ℕ)
 ringOutcome (listed order) = answer order
-ringOutcome (ring c) = refused 10 c 0
+ringOutcome (ring c) = refused N.ring c 0
 
 -- "The order alone tests 1, 2, 13, 10"; `room` is the length of the tray, which holds "one number a chunk for the order"
 abbrev pub orderOutcome : List ℕ → ℕ → Outcome (List ℕ)
@@ -96,16 +98,25 @@ sheetOf cs =
     (λ order. followedBy (linesIn order cs (replicate (length cs) noLine))
     (λ lines. answer (record { order = order; lines = lines })))
 
--- the module sheet: 1, 2, 13, 10, then chunk after chunk; its tray holds "three for the sheet"
+-- "three for the sheet (cycles, peak, bytes, by chunk index)": the numbers of a line in the tray, how many they are, and room for 256 lines
+abbrev pub lineNumbers : Line → List ℕ
+lineNumbers l = l .cycles ∷ l .peak ∷ l .bytes ∷ []
+
+abbrev pub lineWidth : ℕ
+lineWidth = 3
+
+abbrev pub sheetRoom : ℕ
+sheetRoom = mostChunks * lineWidth
+
+-- the module sheet: 1, 2, 13, 10, then chunk after chunk
 abbrev pub sheetOutcome : List ℕ → ℕ → Outcome Sheet
 sheetOutcome ws room =
-    followedBy (readModule ws) (λ cs. followedBy (withRoom room (3 * length cs) cs) (λ ds. sheetOf ds))
+    followedBy (readModule ws) (λ cs. followedBy (withRoom room (lineWidth * length cs) cs) (λ ds. sheetOf ds))
 
--- "(cycles, peak, bytes, by chunk index)"
 unfoldable pub trayNumbers : List Line → List ℕ
 trayNumbers [] = []
-trayNumbers (l ∷ ls) = l .cycles ∷ l .peak ∷ l .bytes ∷ trayNumbers ls
+trayNumbers (l ∷ ls) = lineNumbers l ++ trayNumbers ls
 
 abbrev pub sheetTray : Outcome Sheet → List ℕ → List ℕ
-sheetTray (answer s) tray = trayNumbers (s .lines) ++ drop (3 * length (s .lines)) tray
+sheetTray (answer s) tray = trayNumbers (s .lines) ++ drop (lineWidth * length (s .lines)) tray
 sheetTray (refused n c p) tray = tray

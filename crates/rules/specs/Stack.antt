@@ -6,12 +6,15 @@ use lib.Dec.{eqb, leb}
 use lib.IntN.{ℤ, pos, negsuc, _+ℤ_, _-ℤ_}
 use lib.ListN.{getD}
 use lib.Signed.{ltZ}
+use Rattle.rules.specs.Kinds as K
+use Rattle.rules.specs.Limits.{deepest, mostSlots}
+use Rattle.rules.specs.Numbers as N
 use Rattle.rules.specs.Outcome.{Result, ok, no, andThen}
 use Rattle.rules.specs.Ops.{kind, fieldA, fieldB, figuresOf, opAt}
 use Rattle.rules.specs.Form.{Chunk}
 use Rattle.rules.specs.Rows.{Row, end, step, stop, leave, leaveIf, ifThen, ifElse, loop, chunkRow}
 use Rattle.rules.specs.Count.{countOf}
-use Rattle.rules.specs.Cycles.{inner, deepest}
+use Rattle.rules.specs.Cycles.{inner}
 
 -- "Delta is the offset at the range's end, signed, or the mark "ends"."
 pub data Delta : Type 0 where
@@ -108,7 +111,7 @@ callRise callees w = maxZ (pos (calleeSlots callees (fieldA w)) -ℤ pos (fieldB
 
 abbrev pub riseOf : Chunk → List ℕ → ℕ → ℤ
 riseOf c callees i =
-    cond (eqb (kind (opAt (c .ops) i)) 30) (callRise callees (opAt (c .ops) i)) (pos (figuresOf (opAt (c .ops) i) .growth))
+    cond (eqb (kind (opAt (c .ops) i)) K.Call) (callRise callees (opAt (c .ops) i)) (pos (figuresOf (opAt (c .ops) i) .growth))
 
 -- growth less shrink
 abbrev pub moveOf : Chunk → ℕ → ℤ
@@ -122,11 +125,11 @@ pub record Stack : Type 0 where
 
 abbrev pub unlessTall : Bool → ℕ → Height → Result Stack
 unlessTall true locals h = ok (record { peak = h .peak; delta = h .delta; bytes = bytesOf (locals + h .peak) })
-unlessTall false locals h = no 11 0
+unlessTall false locals h = no N.tooTall 0
 
 -- "11 too tall: locals + peak over 134,217,727"; "Bytes are 32 times (locals + peak) (`compute_chunk_wcmu`)."
 abbrev pub stackOf : ℕ → Height → Result Stack
-stackOf locals h = unlessTall (leb (locals + h .peak) 134217727) locals h
+stackOf locals h = unlessTall (leb (locals + h .peak) mostSlots) locals h
 
 abbrev pub rowStack : Chunk → List ℕ → Row → Result Stack
 rowStack c callees r =

@@ -2,10 +2,14 @@
 use mathlib.Core.Bool.{Bool, true, false}
 use mathlib.Core.List.{List, [], _∷_, _++_}
 use Prim.Native.Nat.{ℕ, zero, suc, _+_, _*_, _/_, _%_}
+use Prim.Native.Char.{code}
+use Prim.Native.String.{String, len, charAt}
 use lib.Dec.{eqb, ltb}
 use lib.ListN.{length, getD}
+use Rattle.rules.specs.Limits.{mostChunks}
+use Rattle.rules.specs.Numbers as N
 use Rattle.rules.specs.Outcome.{Outcome, answer, refused}
-use Rattle.rules.specs.Sheet.{Line, noLine, Sheet, sheetOutcome}
+use Rattle.rules.specs.Sheet.{Line, noLine, Sheet, sheetOutcome, lineWidth, sheetRoom}
 
 -- "reads little-endian words"
 unfoldable pub wordsOf : List ℕ → List ℕ
@@ -33,20 +37,32 @@ space = 32
 abbrev pub newline : ℕ
 newline = 10
 
--- "chunk cycles peak bytes"
-abbrev pub heading : List ℕ
-heading =
-    99 ∷ 104 ∷ 117 ∷ 110 ∷ 107 ∷ space ∷ 99 ∷ 121 ∷ 99 ∷ 108 ∷ 101 ∷ 115 ∷ space ∷ 112 ∷ 101 ∷ 97 ∷ 107 ∷ space
-    ∷ 98 ∷ 121 ∷ 116 ∷ 101 ∷ 115 ∷ newline ∷ []
+-- n bytes of a quoted text from place i on; all of them
+abbrev pub textFrom : ℕ → String → ℕ → List ℕ
+textFrom zero s i = []
+textFrom (suc n) s i = code (charAt s i) ∷ textFrom n s (suc i)
 
--- "refused"
+abbrev pub textOf : String → List ℕ
+textOf s = textFrom (len s) s 0
+
+-- the first line that `sheet` prints
+abbrev pub heading : List ℕ
+heading = textOf "chunk cycles peak bytes\n"
+
 abbrev pub refusedWord : List ℕ
-refusedWord = 114 ∷ 101 ∷ 102 ∷ 117 ∷ 115 ∷ 101 ∷ 100 ∷ []
+refusedWord = textOf "refused"
 
 -- "Chunk index, cycles, peak in slots, stack bytes"
 abbrev pub lineText : ℕ → Line → List ℕ
 lineText c l =
     decimal c ++ (space ∷ decimal (l .cycles) ++ (space ∷ decimal (l .peak) ++ (space ∷ decimal (l .bytes) ++ (newline ∷ []))))
+
+-- the most bytes of a line: its chunk and its numbers, each of at most 10 digits and one byte behind them; and of a heading and 256 lines
+abbrev pub lineMost : ℕ
+lineMost = 11 * (1 + lineWidth)
+
+abbrev pub sheetMost : ℕ
+sheetMost = length heading + mostChunks * lineMost
 
 -- "one line a chunk, in call order"
 unfoldable pub linesText : List ℕ → List Line → List ℕ
@@ -62,8 +78,8 @@ outcomeText (refused n c p) =
 -- "A byte count that four doesn't divide is refusal 1." A list of over 16,384 words is one too. The tray is the program's own, and
 -- large enough for 256 chunks.
 abbrev pub bytesOutcome : Bool → List ℕ → Outcome Sheet
-bytesOutcome true bytes = sheetOutcome (wordsOf bytes) 768
-bytesOutcome false bytes = refused 1 0 0
+bytesOutcome true bytes = sheetOutcome (wordsOf bytes) sheetRoom
+bytesOutcome false bytes = refused N.badHead 0 0
 
 abbrev pub sheetText : List ℕ → List ℕ
 sheetText bytes = outcomeText (bytesOutcome (eqb (length bytes % 4) 0) bytes)

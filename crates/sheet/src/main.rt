@@ -2,6 +2,7 @@
 use libc::STDERR_FILENO;
 use libc::STDIN_FILENO;
 use libc::STDOUT_FILENO;
+use report::OUT;
 use report::sheet_text;
 ghost use lib.ListN.{length};
 ghost use Rattle.sheet.specs.Input.{AtMost};
@@ -39,7 +40,7 @@ fn main() {
         io::write_all(STDERR_FILENO, b"sheet: cannot read\n");
         return;
     };
-    let mut out = [0u8; 11288];
+    let mut out = [0u8; OUT];
     let end = sheet_text(&bytes[..n], &mut out);
     if !io::write_all(STDOUT_FILENO, &out[..end]) {
         io::write_all(STDERR_FILENO, b"sheet: cannot write\n");

@@ -11,7 +11,7 @@ use Rattle.rules.specs.Outcome.{ok, Outcome, answer, refused}
 use Rattle.rules.specs.Form.{Chunk}
 use Rattle.rules.specs.Reading.{read}
 use Rattle.rules.specs.Sheet as R
-use Rattle.rules.specs.Sheet.{readOutcome, sheetOf, sheetOutcome, trayNumbers, sheetTray}
+use Rattle.rules.specs.Sheet.{readOutcome, sheetOf, sheetOutcome, lineWidth, trayNumbers, sheetTray}
 use Rattle.words.specs.Parts.{chunksIn}
 use Rattle.words.proofs.LookupLaws.{refused-before}
 use Rattle.order.specs.Search.{Readable}
@@ -32,26 +32,26 @@ unread ws tray n p e = leaves ws tray (refused n 0 p) (sym (refused-before ws n 
 
 -- words that are a module, and room for its lines or not
 module _ (ws : List ℕ) (cs : List Chunk) (reads : read ws ≡ ok cs) (room : ℕ) where
-  too-short : room < 3 * length cs → sheetOutcome ws room ≡ refused 13 0 0
-  too-short h = rw (reads, lt-leb (3 * length cs) room h)
+  too-short : room < lineWidth * length cs → sheetOutcome ws room ≡ refused 13 0 0
+  too-short h = rw (reads, lt-leb (lineWidth * length cs) room h)
 
-  fitting : 3 * length cs ≤ room → sheetOutcome ws room ≡ sheetOf cs
-  fitting h = rw (reads, le-leb (3 * length cs) room h)
+  fitting : lineWidth * length cs ≤ room → sheetOutcome ws room ≡ sheetOf cs
+  fitting h = rw (reads, le-leb (lineWidth * length cs) room h)
 
 module _ {ws : List ℕ} {n : ℕ} (words : Readable ws n) where
-  pub short-tray : (tray : List ℕ) → length tray < 3 * n → Leaves ws tray (refused 13 0 0) tray
+  pub short-tray : (tray : List ℕ) → length tray < lineWidth * n → Leaves ws tray (refused 13 0 0) tray
   short-tray tray h = leaves ws tray (refused 13 0 0) (too-short ws (chunksIn ws) (words .reads) (length tray) (omega (arith, words .chunks)))
 
   module _ (s : Sheet) (made : sheetIs n s ≡ sheetOf (chunksIn ws)) where
     -- where there is room, the outcome is the sheet that was worked out
-    pub sheet-outcome : (room : ℕ) → 3 * n ≤ room → sheetOutcome ws room ≡ sheetIs n s
+    pub sheet-outcome : (room : ℕ) → lineWidth * n ≤ room → sheetOutcome ws room ≡ sheetIs n s
     sheet-outcome room fits = fitting ws (chunksIn ws) (words .reads) room (omega (arith, words .chunks)) ∙ sym made
 
-    module _ (tray : List ℕ) (fits : 3 * n ≤ length tray) where
+    module _ (tray : List ℕ) (fits : lineWidth * n ≤ length tray) where
       pub refused-sheet : s .refuses ≡ true → Leaves ws tray (refused (s .number) (s .chunk) (s .place)) tray
       refused-sheet e = leaves ws tray _ (rw e at (sheet-outcome (length tray) fits))
 
-      pub whole-sheet : s .refuses ≡ false → (after : List ℕ) → after ≡ trayNumbers (lineList n (s .cycles) (s .peaks) (s .bytes)) ++ drop (3 * n) tray
+      pub whole-sheet : s .refuses ≡ false → (after : List ℕ) → after ≡ trayNumbers (lineList n (s .cycles) (s .peaks) (s .bytes)) ++ drop (lineWidth * n) tray
           → Leaves ws tray (answer n) after
       whole-sheet is after e =
           let size = lines-length n (s .cycles) (s .peaks) (s .bytes) in

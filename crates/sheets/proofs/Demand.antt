@@ -5,13 +5,14 @@ use mathlib.Core.Bool.{true, false}
 use mathlib.Core.List.{List, [], _∷_, _++_}
 use Prim.Native.Nat.{ℕ, zero, suc, _+_, _*_, _<_, _≤_, min}
 use native.Mathlib.Omega.{arith}
-use lib.ListN.{length, getD, drop, set, replicate, length-set, length-replicate}
+use lib.ListN.{length, getD, drop, set, replicate, length-set, length-replicate, List·getD-append}
+use lib.Seq.{getD-append-add}
 use Rattle.rules.specs.Outcome.{Outcome, answer, refused, inChunk}
 use Rattle.rules.specs.Form.{Chunk}
 use Rattle.rules.specs.Reading.{read}
-use Rattle.rules.specs.Cycles.{cycleCap}
+use Rattle.rules.specs.Limits.{cycleCap}
 use Rattle.rules.specs.Order.{callOrder, chunkAt}
-use Rattle.rules.specs.Sheet.{Line, noLine, Sheet, chunkLine, bytesList, linesIn, readModule, ringOutcome, sheetOutcome, sheetTray, trayNumbers}
+use Rattle.rules.specs.Sheet.{Line, noLine, Sheet, chunkLine, bytesList, linesIn, readModule, ringOutcome, sheetOutcome, sheetTray, lineNumbers, lineWidth, trayNumbers}
 use Rattle.rules.specs.Paths.{Way, begin, path, pathCycles, pathBytes, KeepsCounts, KeepsDepths}
 use Rattle.rules.specs.Claims.{Accepted}
 use Rattle.rules.proofs.Answers.{from-answer, from-chunk}
@@ -44,22 +45,17 @@ all-lines {ws} {room} {cs} {s} accepted =
     let final : b .0 ≡ s .lines = cc (b .2) in
     same-length cs (a .0) (replicate (length cs) noLine) (s .lines) (b .1 ∙ ap answer final) ∙ length-replicate (length cs) noLine
 
--- where a line stands in the tray: its cycles at 3c, its bytes at 3c + 2
-cycles-at : (ls : List Line) (rest : List ℕ) (c : ℕ) → c < length ls → getD (trayNumbers ls ++ rest) (3 * c) 0 ≡ getD ls c noLine .cycles
+-- where the k-th number of a line stands in the tray
+number-at : (ls : List Line) (rest : List ℕ) (c k p : ℕ) → c < length ls → k < lineWidth → p ≡ lineWidth * c + k
+    → getD (trayNumbers ls ++ rest) p 0 ≡ getD (lineNumbers (getD ls c noLine)) k 0
 unfolding trayNumbers
-cycles-at [] rest c h = absurd (omega arith)
-cycles-at (l ∷ ls) rest zero h = refl
-cycles-at (l ∷ ls) rest (suc c) h =
-    let e : 3 * suc c ≡ suc (suc (suc (3 * c))) = omega arith in
-    rw e (cycles-at ls rest c (omega arith))
-
-bytes-at : (ls : List Line) (rest : List ℕ) (c : ℕ) → c < length ls → getD (trayNumbers ls ++ rest) (3 * c + 2) 0 ≡ getD ls c noLine .bytes
-unfolding trayNumbers
-bytes-at [] rest c h = absurd (omega arith)
-bytes-at (l ∷ ls) rest zero h = refl
-bytes-at (l ∷ ls) rest (suc c) h =
-    let e : 3 * suc c + 2 ≡ suc (suc (suc (3 * c + 2))) = omega arith in
-    rw e (bytes-at ls rest c (omega arith))
+number-at [] rest c k p h lt e = absurd (omega arith)
+number-at (l ∷ ls) rest zero k p h lt e =
+    let z : p ≡ k = omega arith in
+    rw z (List·getD-append (lineNumbers l) (trayNumbers ls ++ rest) 0 k lt)
+number-at (l ∷ ls) rest (suc c) k p h lt e =
+    let z : p ≡ lineWidth + (lineWidth * c + k) = omega arith in
+    rw z (getD-append-add (lineNumbers l) (trayNumbers ls ++ rest) (lineWidth * c + k) 0 ∙ number-at ls rest c k _ (omega arith) lt refl)
 
 module _ (ws tray : List ℕ) (s : Sheet) (answers : sheetOutcome ws (length tray) ≡ answer s) (c : ℕ) (lt : c < length (chunksIn ws)) (ways : List Way) where
   accepted : Accepted ws (length tray) (chunksIn ws) s
@@ -68,17 +64,17 @@ module _ (ws tray : List ℕ) (s : Sheet) (answers : sheetOutcome ws (length tra
   lined : c < length (s .lines)
   lined = omega (arith, all-lines accepted)
 
-  -- the cycles of every path that keeps its loops' counts, up to the cap, are at most the number at 3c of the tray that is left
+  -- the cycles of every path that keeps its loops' counts, up to the cap, are at most the first number of its line in the tray that is left
   pub tray-cycles : KeepsCounts (chunksIn ws) false (begin (chunksIn ws) c) ways
-      → min cycleCap (pathCycles (chunksIn ws) (path (chunksIn ws) false (begin (chunksIn ws) c) ways)) ≤ getD (sheetTray (answer s) tray) (3 * c) 0
+      → min cycleCap (pathCycles (chunksIn ws) (path (chunksIn ws) false (begin (chunksIn ws) c) ways)) ≤ getD (sheetTray (answer s) tray) (lineWidth * c) 0
   tray-cycles keeps =
-      rw (cycles-at (s .lines) (drop (3 * length (s .lines)) tray) c lined) (cycles-bounded ws (length tray) (chunksIn ws) s accepted c lt ways keeps)
+      rw (number-at (s .lines) (drop (lineWidth * length (s .lines)) tray) c 0 (lineWidth * c) lined (omega arith) (omega arith)) (cycles-bounded ws (length tray) (chunksIn ws) s accepted c lt ways keeps)
 
-  -- and its stack bytes, callees run, where it keeps its depths, at most the number at 3c + 2
+  -- and its stack bytes, callees run, where it keeps its depths, at most the third number of its line
   pub tray-bytes : KeepsDepths (chunksIn ws) true (begin (chunksIn ws) c) ways
-      → pathBytes (chunksIn ws) c (path (chunksIn ws) true (begin (chunksIn ws) c) ways) ≤ getD (sheetTray (answer s) tray) (3 * c + 2) 0
+      → pathBytes (chunksIn ws) c (path (chunksIn ws) true (begin (chunksIn ws) c) ways) ≤ getD (sheetTray (answer s) tray) (lineWidth * c + 2) 0
   tray-bytes keeps =
-      rw (bytes-at (s .lines) (drop (3 * length (s .lines)) tray) c lined) (stack-bounded ws (length tray) (chunksIn ws) s accepted c lt ways keeps)
+      rw (number-at (s .lines) (drop (lineWidth * length (s .lines)) tray) c 2 (lineWidth * c + 2) lined (omega arith) (omega arith)) (stack-bounded ws (length tray) (chunksIn ws) s accepted c lt ways keeps)
 
 -- an answer that counts lines comes from a sheet with so many
 from-count : (o : Outcome Sheet) (n : ℕ) → answerOutcome (Lines n) ≡ countOf o → (s : Sheet) × (o ≡ answer s) × (length (s .lines) ≡ n)
@@ -97,12 +93,12 @@ module _ (ws tray after : List ℕ) (n : ℕ) (answered : answerOutcome (Lines n
   left : after ≡ sheetTray (answer (counted .0)) tray
   left = written ∙ ap (λ (o : Outcome Sheet). sheetTray o tray) (counted .1)
 
-  -- the cycles of every path through chunk c that keeps its loops' counts, up to the cap, are at most the number that the caller finds at 3c
+  -- the cycles of every path through chunk c that keeps its loops' counts, up to the cap, are at most the first number that the caller finds of its line
   pub call-cycles : KeepsCounts (chunksIn ws) false (begin (chunksIn ws) c) ways
-      → min cycleCap (pathCycles (chunksIn ws) (path (chunksIn ws) false (begin (chunksIn ws) c) ways)) ≤ getD after (3 * c) 0
+      → min cycleCap (pathCycles (chunksIn ws) (path (chunksIn ws) false (begin (chunksIn ws) c) ways)) ≤ getD after (lineWidth * c) 0
   call-cycles keeps = rw left (tray-cycles ws tray (counted .0) (counted .1) c in-module ways keeps)
 
-  -- and its stack bytes, callees run, where it keeps its depths, at most the number at 3c + 2
+  -- and its stack bytes, callees run, where it keeps its depths, at most the third number of its line
   pub call-bytes : KeepsDepths (chunksIn ws) true (begin (chunksIn ws) c) ways
-      → pathBytes (chunksIn ws) c (path (chunksIn ws) true (begin (chunksIn ws) c) ways) ≤ getD after (3 * c + 2) 0
+      → pathBytes (chunksIn ws) c (path (chunksIn ws) true (begin (chunksIn ws) c) ways) ≤ getD after (lineWidth * c + 2) 0
   call-bytes keeps = rw left (tray-bytes ws tray (counted .0) (counted .1) c in-module ways keeps)

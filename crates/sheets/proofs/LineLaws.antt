@@ -5,8 +5,8 @@ use mathlib.Core.List.{List, [], _∷_, _++_}
 use Prim.Native.Nat.{ℕ, zero, suc, _*_, _<_, _≤_}
 use native.Mathlib.Omega.{arith}
 use lib.ListN.{length, getD, take, drop, set, replicate}
-use Rattle.rules.specs.Sheet.{Line, noLine, bytesList, trayNumbers}
-use Rattle.sheets.specs.Module.{lineList}
+use Rattle.rules.specs.Sheet.{Line, noLine, bytesList, lineNumbers, lineWidth, trayNumbers}
+use Rattle.sheets.specs.Module.{lineAt, lineList}
 
 pub lines-length : (n : ℕ) (cycles peaks bytes : List ℕ) → length (lineList n cycles peaks bytes) ≡ n
 unfolding lineList
@@ -45,7 +45,7 @@ lines-set (suc n) (x ∷ cycles) (y ∷ peaks) (z ∷ bytes) h (suc c) lt l =
     ap (λ (ls : List Line). record { cycles = x; peak = y; bytes = z } ∷ ls) (lines-set n cycles peaks bytes long c (omega arith) l)
 
 -- the numbers of the lines in the tray
-pub tray-length : (ls : List Line) → length (trayNumbers ls) ≡ 3 * length ls
+pub tray-length : (ls : List Line) → length (trayNumbers ls) ≡ lineWidth * length ls
 unfolding trayNumbers
 tray-length [] = refl
 tray-length (l ∷ ls) = omega (arith, tray-length ls)
@@ -57,9 +57,9 @@ next (x ∷ l) i = refl
 
 pub tray-more : (i : ℕ) (cycles peaks bytes : List ℕ)
     → trayNumbers (lineList (suc i) cycles peaks bytes)
-    ≡ trayNumbers (lineList i cycles peaks bytes) ++ (getD cycles i 0 ∷ getD peaks i 0 ∷ getD bytes i 0 ∷ [])
+    ≡ trayNumbers (lineList i cycles peaks bytes) ++ lineNumbers (lineAt i cycles peaks bytes)
 unfolding lineList trayNumbers
 tray-more zero cycles peaks bytes = refl
 tray-more (suc i) cycles peaks bytes =
-    ap (λ (l : List ℕ). getD cycles 0 0 ∷ getD peaks 0 0 ∷ getD bytes 0 0 ∷ l)
+    ap (λ (l : List ℕ). lineNumbers (lineAt 0 cycles peaks bytes) ++ l)
     (rw (← next cycles i, ← next peaks i, ← next bytes i) (tray-more i (drop 1 cycles) (drop 1 peaks) (drop 1 bytes)))

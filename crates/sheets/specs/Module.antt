@@ -12,11 +12,14 @@ use Rattle.sheets.specs.declared.module.Sheet.{Sheet}
 use Rattle.sheets.specs.declared.module.SheetAnswer.{SheetAnswer}
 use Rattle.sheets.specs.declared.module.SheetAnswer.the-variants.{Lines, Refused}
 
--- the first n lines of three columns
+-- line i of three columns, and the first n
+abbrev pub lineAt : ℕ → List ℕ → List ℕ → List ℕ → R.Line
+lineAt i cycles peaks bytes = record { cycles = getD cycles i 0; peak = getD peaks i 0; bytes = getD bytes i 0 }
+
 unfoldable pub lineList : ℕ → List ℕ → List ℕ → List ℕ → List R.Line
 lineList zero cycles peaks bytes = []
 lineList (suc n) cycles peaks bytes =
-    record { cycles = getD cycles 0 0; peak = getD peaks 0 0; bytes = getD bytes 0 0 } ∷ lineList n (drop 1 cycles) (drop 1 peaks) (drop 1 bytes)
+    lineAt 0 cycles peaks bytes ∷ lineList n (drop 1 cycles) (drop 1 peaks) (drop 1 bytes)
 
 -- the sheet with this order, once its lines are worked out
 abbrev pub inOrder : List ℕ → Outcome (List R.Line) → Outcome R.Sheet

@@ -4,18 +4,23 @@ use lines::line::chunk_line;
 use order::entry::call_order;
 use words::heads::Places;
 use words::heads::chunk_places;
+use words::limits::CHUNKS;
 use words::parts::parts_from;
 use words::reader::Reading;
 use words::reader::read_module;
+use words::refusals;
 ghost use mathlib.Core.Path.{_≡_};
 ghost use mathlib.Core.List.{_++_};
 ghost use Prim.Native.Nat.{ℕ, _*_, _≤_};
 ghost use lib.ListN.{length, take, drop, replicate};
 ghost use Rattle.rules.specs.Outcome.{refused};
-ghost use Rattle.rules.specs.Sheet.{noLine, linesIn, sheetOf, sheetOutcome, trayNumbers, sheetTray};
+ghost use Rattle.rules.specs.Sheet.{noLine, linesIn, sheetOf, sheetOutcome, lineWidth, trayNumbers, sheetTray};
 ghost use Rattle.words.specs.Parts.{chunksIn};
 ghost use Rattle.order.specs.Search.{Readable};
 ghost use Rattle.sheets.specs.Module.{lineList, inOrder, sheetIs, answerOutcome, countOf, Ordering};
+
+// The numbers of a line in the tray: cycles, peak, bytes.
+pub const WIDTH: usize = 3;
 
 // A sheet as it is worked out: the call order and the figures of the lines by chunk index, or, where it refuses, the refusal.
 pub struct Sheet {
@@ -23,10 +28,10 @@ pub struct Sheet {
     pub number: u32,
     pub chunk: usize,
     pub place: usize,
-    pub order: [u8; 256],
-    pub cycles: [u32; 256],
-    pub peaks: [u32; 256],
-    pub bytes: [u32; 256],
+    pub order: [u8; CHUNKS],
+    pub cycles: [u32; CHUNKS],
+    pub peaks: [u32; CHUNKS],
+    pub bytes: [u32; CHUNKS],
 }
 
 // The number of chunks whose lines stand in the tray, or a refusal.
@@ -39,7 +44,7 @@ pub enum SheetAnswer {
     },
 }
 
-// The cycles, peak and stack bytes of each chunk of a module into the tray, three numbers a chunk; a refusal writes nothing.
+// The line of each chunk of a module into the tray, WIDTH numbers a chunk; a refusal writes nothing.
 pub fn module_sheet(words: &[u32], tray: &mut [u32]) -> SheetAnswer
     ensures answer { λ r. ⌜ answerOutcome r ≡ countOf (sheetOutcome (now (words .entry)) (length (now (tray .entry)))) ⌝ }
     ensures written { λ r. ⌜ now (tray .exit) ≡ sheetTray (sheetOutcome (now (words .entry)) (length (now (tray .entry)))) (now (tray .entry)) ⌝ }
@@ -55,9 +60,9 @@ pub fn module_sheet(words: &[u32], tray: &mut [u32]) -> SheetAnswer
         }
         Reading::Accepted(chunks) => chunks as usize,
     };
-    if tray.len() < 3 * n {
+    if tray.len() < WIDTH * n {
         return SheetAnswer::Refused {
-            number: 13,
+            number: refusals::SHORT_TRAY,
             chunk: 0,
             place: 0,
         };
@@ -86,21 +91,21 @@ pub fn sheet_of(words: &[u32], n: usize) -> Sheet
     let ops_at = places.ops;
     let extras_at = places.extras;
     let s = call_order(words, &ops_at, &extras_at, n);
-    if s.ring < 256 {
-        return refusal(10, s.ring, 0);
+    if s.ring < CHUNKS {
+        return refusal(refusals::RING, s.ring, 0);
     }
     let order = s.order;
     sheet_lines(words, places, order, n)
 }
 
 // The lines of the chunks that stand at these places, in call order.
-fn sheet_lines(words: &[u32], places: Places, order: [u8; 256], n: usize) -> Sheet
+fn sheet_lines(words: &[u32], places: Places, order: [u8; CHUNKS], n: usize) -> Sheet
     requires { ⌜ Ordering (now words) places order n ⌝ }
     ensures { λ r. ⌜ sheetIs n r ≡ inOrder (take n order) (linesIn (take n order) (chunksIn (now (words .entry))) (replicate n noLine)) ⌝ }
 {
-    let mut cycles = [0u32; 256];
-    let mut peaks = [0u32; 256];
-    let mut bytes = [0u32; 256];
+    let mut cycles = [0u32; CHUNKS];
+    let mut peaks = [0u32; CHUNKS];
+    let mut bytes = [0u32; CHUNKS];
     let mut j = 0;
     while j < n {
         let c = order[j] as usize;
@@ -141,23 +146,24 @@ fn refusal(number: u32, chunk: usize, place: usize) -> Sheet
         number,
         chunk,
         place,
-        order: [0; 256],
-        cycles: [0; 256],
-        peaks: [0; 256],
-        bytes: [0; 256],
+        order: [0; CHUNKS],
+        cycles: [0; CHUNKS],
+        peaks: [0; CHUNKS],
+        bytes: [0; CHUNKS],
     }
 }
 
-// The first n lines into the tray, three numbers each.
+// The first n lines into the tray, WIDTH numbers each.
 fn fill_tray(cycles: &[u32], peaks: &[u32], bytes: &[u32], n: usize, tray: &mut [u32])
-    requires { ⌜ (n ≤ length (now cycles)) × (n ≤ length (now peaks)) × (n ≤ length (now bytes)) × (3 * n ≤ length (now tray)) ⌝ }
-    ensures { λ r. ⌜ now (tray .exit) ≡ trayNumbers (lineList n (now (cycles .entry)) (now (peaks .entry)) (now (bytes .entry))) ++ drop (3 * n) (now (tray .entry)) ⌝ }
+    requires { ⌜ (n ≤ length (now cycles)) × (n ≤ length (now peaks)) × (n ≤ length (now bytes)) × (lineWidth * n ≤ length (now tray)) ⌝ }
+    ensures { λ r. ⌜ now (tray .exit) ≡ trayNumbers (lineList n (now (cycles .entry)) (now (peaks .entry)) (now (bytes .entry))) ++ drop (lineWidth * n) (now (tray .entry)) ⌝ }
 {
     let mut i = 0;
     while i < n {
-        tray[3 * i] = cycles[i];
-        tray[3 * i + 1] = peaks[i];
-        tray[3 * i + 2] = bytes[i];
+        let at = WIDTH * i;
+        tray[at] = cycles[i];
+        tray[at + 1] = peaks[i];
+        tray[at + 2] = bytes[i];
         i += 1;
     }
 }

@@ -8,7 +8,7 @@ use native.Mathlib.Omega.{arith}
 use borrow.Author.Tests.{le-leb, lt-leb}
 use lib.IntN.{pos}
 use Rattle.rules.specs.Outcome.{Result, ok, no}
-use Rattle.rules.specs.Cycles.{deepest}
+use Rattle.rules.specs.Limits.{deepest}
 use Rattle.rules.specs.Stack as R
 use Rattle.stack.specs.declared.height.Height.{Height}
 use Rattle.stack.specs.declared.region.Walk as W

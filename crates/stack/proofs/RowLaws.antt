@@ -7,8 +7,9 @@ use Prim.Native.Nat.{ℕ, _-_, _*_, _<_, _≤_}
 use native.Mathlib.Omega.{arith}
 use lib.IntN.{pos}
 use Rattle.rules.specs.Ops.{opAt}
-use Rattle.rules.specs.Rows.{Row, end, step, stop, leave, leaveIf, ifThen, ifElse, loop, IsRow}
 use Rattle.rows.specs.Tree.{HasRow}
+use Rattle.rows.specs.Opens.{RowFits, StepFits}
+use Rattle.rows.proofs.TreeLaws.{row-end}
 use Rattle.stack.specs.declared.level.Level.{Level}
 use Rattle.stack.specs.declared.height.Height.{Height}
 use Rattle.stack.specs.declared.region.Walk as W
@@ -16,21 +17,10 @@ use Rattle.stack.specs.declared.region.Step.{Step}
 use Rattle.stack.specs.declared.region.Step.the-variants.{Goes, Ends, Refused}
 use Rattle.stack.specs.Levels.{chunkOf, heightOf, endsAt, lifted, Small, SmallHeight}
 use Rattle.stack.specs.Steps.{regionHeight, levelHeight, liftedBy}
-use Rattle.stack.specs.Steps.{RowFits, PartFits, StepFits, RegionMeans, PartMeans, StepMeans}
+use Rattle.stack.specs.Steps.{PartFits, RegionMeans, PartMeans, StepMeans}
 use Rattle.stack.proofs.HeightLaws.{lifted-small}
 use Rattle.stack.proofs.BoundLaws.{small-more, height-more, ends-small}
 use Rattle.stack.proofs.StackLaws as L
-
--- a row that starts no earlier than it ends is empty
-row-end : (op : ℕ → ℕ) (l : Bool) (i to : ℕ) (r : Row) → IsRow op l i to r → to ≤ i → i ≡ to
-row-end op l i to end w h = w
-row-end op l i to (step j r) w h = omega arith
-row-end op l i to (stop j r) w h = omega arith
-row-end op l i to (leave j r) w h = omega arith
-row-end op l i to (leaveIf j r) w h = omega arith
-row-end op l i to (ifThen j t p r) w h = omega arith
-row-end op l i to (ifElse j e t p q r) w h = omega arith
-row-end op l i to (loop j e b r) w h = omega arith
 
 -- what is left of a row at i, with the level there, gives the row's answer
 pub record Rest (constants ops callees : List ℕ) (from to left : ℕ) (broken : Bool) (i : ℕ) (l : Level) : Type 0 where
@@ -46,13 +36,11 @@ rest-start f =
 
 module _ {constants ops callees : List ℕ} {from to left : ℕ} {broken : Bool} {i : ℕ} {l : Level}
     (r : Rest constants ops callees from to left broken i l) where
-  pub rest-fits : RowFits ops from to → i < to → StepFits ops i to l
-  rest-fits f lt =
-      record {
-        here = lt;
-        row = record { within = f .within; short = f .short; has-row = r .row };
-        small = small-more (r .small) (omega arith);
-      }
+  pub rest-small : Small l (65536 * i)
+  rest-small = small-more (r .small) (omega arith)
+
+  pub rest-fits : RowFits ops from to → i < to → StepFits ops i to
+  rest-fits f lt = record { here = lt; row = record { within = f .within; short = f .short; has-row = r .row } }
 
   pub rest-end : to ≤ i → (h : Height) → heightOf h ≡ endsAt l → RegionMeans constants ops callees from to left broken (W.the-variants.Done h)
   rest-end le h is =

@@ -13,7 +13,8 @@ use Rattle.rules.specs.Rows.{step, stop, leave, leaveIf}
 use Rattle.rules.specs.Count.{countOf}
 use Rattle.rules.specs.Stack as R
 use Rattle.rules.specs.Stack.{rowHeight, height}
-use Rattle.rows.proofs.TreeLaws.{Behind, BreakAt, IfAt, ElseAt, LoopAt, tree-empty}
+use Rattle.rows.specs.Opens.{Behind, BreakAt, IfAt, ElseAt, LoopAt}
+use Rattle.rows.proofs.TreeLaws.{tree-empty}
 use Rattle.stack.specs.declared.level.Level.{Level}
 use Rattle.stack.specs.Levels.{chunkOf, effectAt, levelOver, markedAs, endsAt, lifted}
 use Rattle.stack.specs.Steps.{regionHeight, levelHeight, bodyHeight, liftedBy, partHeight, stepResult}

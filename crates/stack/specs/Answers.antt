@@ -5,10 +5,10 @@ use Rattle.rules.specs.Outcome.{Result, ok, no}
 use Rattle.rules.specs.Ops.{opAt}
 use Rattle.rules.specs.Stack.{Stack, rowStack}
 use Rattle.rows.specs.Tree.{treeOf}
+use Rattle.rows.specs.Opens.{RowFits}
 use Rattle.stack.specs.declared.chunk.StackResult.{StackResult}
 use Rattle.stack.specs.declared.chunk.StackResult.the-variants.{Is, Refused}
 use Rattle.stack.specs.Levels.{chunkOf, deltaOf}
-use Rattle.stack.specs.Steps.{RowFits}
 
 -- the walk of the row from `from` up to `to`, of a chunk with these constants, ops and locals
 abbrev pub partsStack : List ℕ → List ℕ → List ℕ → ℕ → ℕ → ℕ → Result Stack

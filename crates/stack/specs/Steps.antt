@@ -3,16 +3,15 @@ use mathlib.Core.Path.{_≡_}
 use mathlib.Core.Bool.{Bool, true, false}
 use mathlib.Core.List.{List}
 use Prim.Native.Nat.{ℕ, suc, _+_, _-_, _*_, _≤_, _<_, max}
-use lib.Dec.{eqb}
 use lib.IntN.{ℤ, pos, natAbs}
-use lib.ListN.{length}
 use Rattle.rules.specs.Outcome.{Result, ok, no, andThen}
-use Rattle.rules.specs.Ops.{kind, fieldA, opAt}
+use Rattle.rules.specs.Ops.{opAt}
 use Rattle.rules.specs.Form.{Chunk}
 use Rattle.rules.specs.Count.{countOf}
 use Rattle.rules.specs.Cycles.{inner}
 use Rattle.rules.specs.Stack as R
 use Rattle.rows.specs.Tree.{HasRow, treeOf}
+use Rattle.rows.specs.Opens.{RowFits}
 use Rattle.stack.specs.declared.level.Level.{Level}
 use Rattle.stack.specs.declared.height.Delta.the-variants.{Ends as Stops}
 use Rattle.stack.specs.declared.region.Walk as W
@@ -49,49 +48,11 @@ abbrev pub SmallResult : Result R.Height → ℕ → Type 0
 SmallResult (ok h) b = SmallHeight h b
 SmallResult (no n p) b = Unit {0}
 
--- a row stands from i up to `to`, inside the ops
-pub record RowFits (ops : List ℕ) (i to : ℕ) : Type 0 where
-  pub within : to ≤ length ops
-  pub short : length ops ≤ 16384
-  pub has-row : HasRow (opAt ops) true i to
-
--- the same, begun at a level that the ops before moved by at most 65,536 each
+-- a row stands from i up to `to`, begun at a level that the ops before moved by at most 65,536 each
 pub record PartFits (ops : List ℕ) (i to : ℕ) (l : Level) : Type 0 where
   pub ordered : i ≤ to
   pub row : RowFits ops i to
   pub small : Small l (65536 * i)
-
--- the same, with an op at i
-pub record StepFits (ops : List ℕ) (i to : ℕ) (l : Level) : Type 0 where
-  pub here : i < to
-  pub row : RowFits ops i to
-  pub small : Small l (65536 * i)
-
--- with an op at i that is counted in the level already
-pub record BlockFits (ops : List ℕ) (i to : ℕ) (l : Level) : Type 0 where
-  pub here : i < to
-  pub row : RowFits ops i to
-  pub small : Small l (65536 * suc i)
-
--- with an If at i whose EndIf is at t
-pub record IfFits (ops : List ℕ) (i t to : ℕ) (l : Level) : Type 0 where
-  pub block : BlockFits ops i to l
-  pub is-if : kind (opAt ops i) ≡ 21
-  pub target : t ≡ fieldA (opAt ops i)
-  pub no-else : eqb (kind (opAt ops (t - 1))) 22 ≡ false
-
--- with an If at i whose Else is at e
-pub record ElseFits (ops : List ℕ) (i e to : ℕ) (l : Level) : Type 0 where
-  pub block : BlockFits ops i to l
-  pub is-if : kind (opAt ops i) ≡ 21
-  pub target : e ≡ fieldA (opAt ops i) - 1
-  pub is-else : eqb (kind (opAt ops e)) 22 ≡ true
-
--- with a Loop at i whose EndLoop is at e
-pub record LoopFits (ops : List ℕ) (i e to : ℕ) (l : Level) : Type 0 where
-  pub block : BlockFits ops i to l
-  pub is-loop : kind (opAt ops i) ≡ 24
-  pub target : e ≡ fieldA (opAt ops i) - 1
 
 -- a row's height from its start; its bound grows by 65,536 an op
 abbrev pub RegionMeans : List ℕ → List ℕ → List ℕ → ℕ → ℕ → ℕ → Bool → W.Walk → Type 0
@@ -151,10 +112,9 @@ elseTail c callees i e f to left l =
     andThen (partHeight c callees (suc i) e left (l .offset) (l .broken))
     (λ arm. andThen (partHeight c callees (suc e) f left (l .offset) (arm .broken)) (λ other. armsTail c callees f to left l arm other))
 
-abbrev pub ElseMeans : List ℕ → List ℕ → List ℕ → ℕ → ℕ → ℕ → ℕ → Level → Step → Type 0
-ElseMeans constants ops callees i e to left l r =
-    Means constants ops callees i (suc i) to left l
-    (elseTail (chunkOf 0 constants ops) callees i e (fieldA (opAt ops e)) to left l) r
+abbrev pub ElseMeans : List ℕ → List ℕ → List ℕ → ℕ → ℕ → ℕ → ℕ → ℕ → Level → Step → Type 0
+ElseMeans constants ops callees i e f to left l r =
+    Means constants ops callees i (suc i) to left l (elseTail (chunkOf 0 constants ops) callees i e f to left l) r
 
 -- the walk behind a Loop: the body, EndLoop at e
 abbrev pub loopTail : Chunk → List ℕ → ℕ → ℕ → ℕ → ℕ → Level → Result R.Height

@@ -3,6 +3,9 @@ use crate::height::Delta;
 use crate::height::Height;
 use crate::region::Walk;
 use crate::region::wcmu_region_at;
+use words::limits::LEVELS;
+use words::limits::SLOTS;
+use words::refusals;
 use words::units::Slots;
 use words::units::StackBytes;
 use words::units::bytes_of;
@@ -33,9 +36,9 @@ fn stack_of(locals: u32, height: Height) -> StackResult
     let peak = height.peak;
     let delta = height.delta;
     let slots = locals + peak.0;
-    if 134217727 < slots {
+    if SLOTS < slots {
         return StackResult::Refused {
-            number: 11,
+            number: refusals::TOO_TALL,
             place: 0,
         };
     }
@@ -58,7 +61,7 @@ pub fn compute_chunk_wcmu(
     requires { ⌜ StackFits (now ops) locals from to ⌝ }
     ensures { λ r. ⌜ stackResult r ≡ partsStack (now (constants .entry)) (now (ops .entry)) (now (callees .entry)) locals from to ⌝ }
 {
-    let walk = wcmu_region_at(constants, ops, callees, from, to, 256, false);
+    let walk = wcmu_region_at(constants, ops, callees, from, to, LEVELS, false);
     match walk {
         Walk::Done(height) => stack_of(locals, height),
         Walk::Refused { number, place } => StackResult::Refused { number, place },

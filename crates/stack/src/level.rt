@@ -1,6 +1,8 @@
 // What an op does to the operand stack, and the level of the stack along a row.
+use words::fields;
 use words::figures::stack_growth;
 use words::figures::stack_shrink;
+use words::kinds;
 use words::units::Slots;
 use words::units::StackBytes;
 use words::units::slots_in;
@@ -8,6 +10,7 @@ ghost use mathlib.Core.Path.{_≡_};
 ghost use Prim.Native.Nat.{_<_, _≤_, max};
 ghost use lib.IntN.{natAbs};
 ghost use lib.ListN.{length, getD};
+ghost use Rattle.rules.specs.Limits.{mostSlots};
 ghost use Rattle.rules.specs.Stack.{callRise};
 ghost use Rattle.stack.specs.Levels.{effectAt, levelOver, raisedTo, markedAs, Small, SmallEffect};
 
@@ -37,10 +40,10 @@ fn bytes_at(callees: &[u32], k: usize) -> StackBytes
 
 // A Call's rise: the callee's slots less the arguments, at least 1.
 fn call_rise(callees: &[u32], w: u32) -> i64
-    ensures { λ r. ⌜ (r ≡ callRise (now (callees .entry)) w) × (natAbs r ≤ 134217727) ⌝ }
+    ensures { λ r. ⌜ (r ≡ callRise (now (callees .entry)) w) × (natAbs r ≤ mostSlots) ⌝ }
 {
-    let slots = slots_in(bytes_at(callees, (w % 65536) as usize));
-    let rise = (slots.0 as i64) - ((w / 65536 % 256) as i64);
+    let slots = slots_in(bytes_at(callees, (w % fields::B_UNIT) as usize));
+    let rise = (slots.0 as i64) - ((w / fields::B_UNIT % fields::B_VALUES) as i64);
     if rise < 1 { 1 } else { rise }
 }
 
@@ -52,7 +55,7 @@ pub fn op_effect(ops: &[u32], callees: &[u32], i: usize) -> Effect
     let w = ops[i];
     let growth = stack_growth(w) as i64;
     let shift = growth - (stack_shrink(w) as i64);
-    if w / 16777216 == 30 {
+    if w / fields::KIND_UNIT == kinds::CALL {
         return Effect {
             rise: call_rise(callees, w),
             shift,

@@ -12,12 +12,15 @@ use crate::level::op_effect;
 use crate::level::raised;
 use count::bound::Bound;
 use count::bound::extract_loop_iteration_bound;
+use rows::block::Block;
+use rows::block::block_at;
+use words::refusals;
 use words::units::Slots;
 ghost use mathlib.Core.Path.{_≡_};
-ghost use Prim.Native.Nat.{_<_};
-ghost use Rattle.stack.specs.Levels.{deltaOf, heightOf};
-ghost use Rattle.stack.specs.Steps.{RowFits, PartFits, StepFits, IfFits, ElseFits, LoopFits};
-ghost use Rattle.stack.specs.Steps.{RegionMeans, PartMeans, StepMeans, IfMeans, ElseMeans, LoopMeans};
+ghost use Prim.Native.Nat.{ℕ, suc, _*_, _<_};
+ghost use Rattle.rows.specs.Opens.{RowFits, StepFits, IfFits, ElseFits, LoopFits};
+ghost use Rattle.stack.specs.Levels.{deltaOf, heightOf, Small};
+ghost use Rattle.stack.specs.Steps.{PartFits, RegionMeans, PartMeans, StepMeans, IfMeans, ElseMeans, LoopMeans};
 ghost use Rattle.stack.specs.Steps.{endedAt, goesOn, joined, passedOnce};
 
 // A row's height, or refusal 7 or 9 with its place.
@@ -94,7 +97,7 @@ pub fn wcmu_region_at(
         broken,
     };
     while i < to {
-        let step = wcmu_step(constants, ops, callees, i, to, left, level);
+        let step = wcmu_step(constants, ops, callees, i, left, level);
         match step {
             Step::Goes(next, behind) => {
                 i = next;
@@ -117,37 +120,24 @@ fn wcmu_step(
     ops: &[u32],
     callees: &[u32],
     i: usize,
-    to: usize,
     left: u16,
     level: Level,
 ) -> Step
-    requires { ⌜ StepFits (now ops) i to level ⌝ }
-    ensures { λ r. ⌜ StepMeans (now (constants .entry)) (now (ops .entry)) (now (callees .entry)) i to left level r ⌝ }
+    requires { ⌜ (Small level (65536 * i)) × ((to : ℕ) × StepFits (now ops) i to) ⌝ }
+    ensures { λ r. ⌜ ((to : ℕ) → StepFits (now (ops .entry)) i to → StepMeans (now (constants .entry)) (now (ops .entry)) (now (callees .entry)) i to left level r) ⌝ }
 {
     let behind = level_over(level, op_effect(ops, callees, i));
     let peak = behind.peak;
-    let w = ops[i];
-    let k = w / 16777216;
-    let t = (w % 65536) as usize;
-    if k == 21 {
-        if ops[t - 1] / 16777216 == 22 {
-            return wcmu_else(constants, ops, callees, i, t - 1, to, left, behind);
-        }
-        return wcmu_if(constants, ops, callees, i, t, to, left, behind);
+    let block = block_at(ops, i);
+    match block {
+        Block::Plain => Step::Goes(i + 1, behind),
+        Block::Ends => ended(peak, behind.broken),
+        Block::Break => ended(peak, true),
+        Block::BreakIf => Step::Goes(i + 1, marked(behind, true)),
+        Block::If(t) => wcmu_if(constants, ops, callees, i, t, left, behind),
+        Block::IfElse(e, f) => wcmu_else(constants, ops, callees, i, e, f, left, behind),
+        Block::Loop(e) => wcmu_loop(constants, ops, callees, i, e, left, behind),
     }
-    if k == 24 {
-        return wcmu_loop(constants, ops, callees, i, t - 1, to, left, behind);
-    }
-    if k == 31 || k == 50 {
-        return ended(peak, behind.broken);
-    }
-    if k == 26 {
-        return ended(peak, true);
-    }
-    if k == 27 {
-        return Step::Goes(i + 1, marked(behind, true));
-    }
-    Step::Goes(i + 1, behind)
 }
 
 // A part of a row, one level deeper, begun at a level: its peak lifted by the offset, or 0 where that is below, its delta moved by it.
@@ -165,7 +155,7 @@ fn wcmu_subregion(
 {
     if left == 0 {
         return Walk::Refused {
-            number: 7,
+            number: refusals::TOO_DEEP,
             place: 0,
         };
     }
@@ -186,12 +176,11 @@ fn wcmu_if(
     callees: &[u32],
     i: usize,
     t: usize,
-    to: usize,
     left: u16,
     behind: Level,
 ) -> Step
-    requires { ⌜ IfFits (now ops) i t to behind ⌝ }
-    ensures { λ r. ⌜ IfMeans (now (constants .entry)) (now (ops .entry)) (now (callees .entry)) i t to left behind r ⌝ }
+    requires { ⌜ (Small behind (65536 * suc i)) × ((to : ℕ) × IfFits (now ops) i t to) ⌝ }
+    ensures { λ r. ⌜ ((to : ℕ) → IfFits (now (ops .entry)) i t to → IfMeans (now (constants .entry)) (now (ops .entry)) (now (callees .entry)) i t to left behind r) ⌝ }
 {
     let part = wcmu_subregion(constants, ops, callees, i + 1, t, left, behind);
     let arm = match part {
@@ -203,21 +192,20 @@ fn wcmu_if(
     join_arms(t, behind, height_at(behind), arm)
 }
 
-// Behind an If at i with Else at e: the greater of both arms, and EndIf at Else's target.
+// Behind an If at i with Else at e and EndIf at f: the greater of both arms.
 fn wcmu_else(
     constants: &[u32],
     ops: &[u32],
     callees: &[u32],
     i: usize,
     e: usize,
-    to: usize,
+    f: usize,
     left: u16,
     behind: Level,
 ) -> Step
-    requires { ⌜ ElseFits (now ops) i e to behind ⌝ }
-    ensures { λ r. ⌜ ElseMeans (now (constants .entry)) (now (ops .entry)) (now (callees .entry)) i e to left behind r ⌝ }
+    requires { ⌜ (Small behind (65536 * suc i)) × ((to : ℕ) × ElseFits (now ops) i e f to) ⌝ }
+    ensures { λ r. ⌜ ((to : ℕ) → ElseFits (now (ops .entry)) i e f to → ElseMeans (now (constants .entry)) (now (ops .entry)) (now (callees .entry)) i e f to left behind r) ⌝ }
 {
-    let f = (ops[e] % 65536) as usize;
     let first = wcmu_subregion(constants, ops, callees, i + 1, e, left, behind);
     let arm = match first {
         Walk::Done(h) => h,
@@ -261,12 +249,11 @@ fn wcmu_loop(
     callees: &[u32],
     i: usize,
     e: usize,
-    to: usize,
     left: u16,
     behind: Level,
 ) -> Step
-    requires { ⌜ LoopFits (now ops) i e to behind ⌝ }
-    ensures { λ r. ⌜ LoopMeans (now (constants .entry)) (now (ops .entry)) (now (callees .entry)) i e to left behind r ⌝ }
+    requires { ⌜ (Small behind (65536 * suc i)) × ((to : ℕ) × LoopFits (now ops) i e to) ⌝ }
+    ensures { λ r. ⌜ ((to : ℕ) → LoopFits (now (ops .entry)) i e to → LoopMeans (now (constants .entry)) (now (ops .entry)) (now (callees .entry)) i e to left behind r) ⌝ }
 {
     let unbroken = marked(behind, false);
     let part = wcmu_subregion(constants, ops, callees, i + 1, e, left, unbroken);
@@ -285,7 +272,7 @@ fn wcmu_loop(
     let bound = extract_loop_iteration_bound(constants, ops, i);
     let Bound::Count(_) = bound else {
         return Step::Refused {
-            number: 9,
+            number: refusals::NO_COUNT,
             place: i,
         };
     };

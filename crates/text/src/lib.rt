@@ -4,7 +4,7 @@ ghost use mathlib.Core.List.{[], _∷_};
 ghost use Prim.Native.Nat.{_+_, _*_, _≤_, _<_, _/_};
 ghost use lib.ListN.{length};
 ghost use Rattle.rules.specs.Outcome.{refused};
-ghost use Rattle.rules.specs.Text.{decimal, heading, lineText, outcomeText};
+ghost use Rattle.rules.specs.Text.{decimal, heading, lineMost, lineText, outcomeText};
 ghost use Rattle.text.specs.Field.{fieldText};
 ghost use Rattle.text.specs.Paste.{pasted};
 ghost use Rattle.text.specs.Words.{wordAt, WordsRead};
@@ -77,15 +77,6 @@ fn put_digits(out: &mut [u8], at: usize, n: u64) -> usize
     put(out, next, 48 + (n % 10) as u8)
 }
 
-// The decimal digits of n, which are 20 at most.
-pub fn put_decimal(out: &mut [u8], at: usize, n: u64) -> usize
-    requires { ⌜ at + 20 ≤ length (now out) ⌝ }
-    ensures written { λ _. ⌜ now (out .exit) ≡ pasted at (decimal n) (now (out .entry)) ⌝ }
-    ensures next { λ r. ⌜ r ≡ at + length (decimal n) ⌝ }
-{
-    put_digits(out, at, n)
-}
-
 // The decimal digits of n, and the byte that ends the field.
 fn put_field(out: &mut [u8], at: usize, n: u64, end: u8) -> usize
     requires { ⌜ at + length (fieldText n end) ≤ length (now out) ⌝ }
@@ -107,10 +98,10 @@ pub fn put_heading(out: &mut [u8], at: usize) -> usize
 
 // A chunk's line.
 pub fn put_line(out: &mut [u8], at: usize, c: u32, cycles: u32, peak: u32, bytes: u32) -> usize
-    requires { ⌜ at + 44 ≤ length (now out) ⌝ }
+    requires { ⌜ at + lineMost ≤ length (now out) ⌝ }
     ensures written { λ _. ⌜ now (out .exit) ≡ pasted at (lineText c (record { cycles = cycles; peak = peak; bytes = bytes })) (now (out .entry)) ⌝ }
     ensures next { λ r. ⌜ r ≡ at + length (lineText c (record { cycles = cycles; peak = peak; bytes = bytes })) ⌝ }
-    ensures short { λ r. ⌜ r ≤ at + 44 ⌝ }
+    ensures short { λ r. ⌜ r ≤ at + lineMost ⌝ }
 {
     let first = put_field(out, at, c as u64, b' ');
     let second = put_field(out, first, cycles as u64, b' ');

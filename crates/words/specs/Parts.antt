@@ -4,6 +4,8 @@ use mathlib.Core.Bool.{Bool}
 use mathlib.Core.List.{List, [], flatMap}
 use Prim.Native.Nat.{ℕ, suc, _+_, _-_, _≤_}
 use lib.ListN.{length, getD, take, drop}
+use Rattle.rules.specs.Kinds as K
+use Rattle.rules.specs.Limits.{mostWords}
 use Rattle.rules.specs.Ops.{kind, fieldA, fieldB, between}
 use Rattle.rules.specs.Outcome.{Result, ok, no}
 use Rattle.rules.specs.Form.{Chunk, ChunkFits, chunkWords}
@@ -28,9 +30,9 @@ partsFrom ws at ops extras end =
 -- the parts of the chunk whose head stands at a position: constants of kinds 202 and 203, ops of kinds 0 to 65, extras of kind 204
 abbrev pub partsAt : List ℕ → ℕ → Parts
 partsAt ws at =
-    let ops = behindRun 202 203 ws (at + 1) in
-    let extras = behindRun 0 65 ws ops in
-    partsFrom ws at ops extras (behindRun 204 204 ws extras)
+    let ops = behindRun K.Integer K.Other ws (at + 1) in
+    let extras = behindRun K.Const K.CallExternalNative ws ops in
+    partsFrom ws at ops extras (behindRun K.Extra K.Extra ws extras)
 
 -- the words from one position up to another
 abbrev pub partOf : ℕ → ℕ → List ℕ → List ℕ
@@ -65,4 +67,4 @@ pub record PartsFit (ws : List ℕ) (p : Parts) : Type 0 where
   pub chunk : Chunk
   pub parts : PartsOf ws p chunk
   pub fits : ChunkFits chunk
-  pub short : length ws ≤ 16384
+  pub short : length ws ≤ mostWords

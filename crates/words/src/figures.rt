@@ -1,4 +1,6 @@
 // The figures of an op: a constant table by kind, and beside it the kinds whose figures depend on a or b.
+use crate::fields;
+use crate::kinds;
 ghost use mathlib.Core.Path.{_≡_};
 ghost use Prim.Native.Nat.{_+_, _*_, _<_};
 ghost use Rattle.rules.specs.Ops.{word, figuresOf, trapFigures};
@@ -27,15 +29,19 @@ fn row_of(k: u32) -> u32
 pub fn cycles(w: u32) -> u32
     ensures { λ r. ⌜ r ≡ figuresOf w .cycles ⌝ }
 {
-    let k = w / 16777216;
-    if 65 < k {
+    let k = w / fields::KIND_UNIT;
+    if kinds::CALL_EXTERNAL_NATIVE < k {
         return 0;
     }
-    if k == 36 {
-        return if w / 65536 % 256 == 1 { 8 } else { 2 };
+    if k == kinds::GET_INDEX {
+        return if w / fields::B_UNIT % fields::B_VALUES == 1 {
+            8
+        } else {
+            2
+        };
     }
-    if k == 50 {
-        return if w % 65536 == 8 { 6 } else { 1 };
+    if k == kinds::TRAP {
+        return if w % fields::B_UNIT == 8 { 6 } else { 1 };
     }
     row_of(k) / 16
 }
@@ -44,15 +50,23 @@ pub fn cycles(w: u32) -> u32
 pub fn stack_growth(w: u32) -> u32
     ensures { λ r. ⌜ r ≡ figuresOf w .growth ⌝ }
 {
-    let k = w / 16777216;
-    if k == 36 {
-        return if w / 65536 % 256 == 1 { 5 } else { 0 };
+    let k = w / fields::KIND_UNIT;
+    if k == kinds::GET_INDEX {
+        return if w / fields::B_UNIT % fields::B_VALUES == 1 {
+            5
+        } else {
+            0
+        };
     }
-    if 64 <= k {
-        if 65 < k {
+    if kinds::CALL_VERIFIED_NATIVE <= k {
+        if kinds::CALL_EXTERNAL_NATIVE < k {
             return 0;
         }
-        return if 128 <= w / 65536 % 256 { 2 } else { 1 };
+        return if 128 <= w / fields::B_UNIT % fields::B_VALUES {
+            2
+        } else {
+            1
+        };
     }
     row_of(k) / 2 % 8
 }
@@ -61,22 +75,30 @@ pub fn stack_growth(w: u32) -> u32
 pub fn stack_shrink(w: u32) -> u32
     ensures { λ r. ⌜ r ≡ figuresOf w .shrink ⌝ }
 {
-    let k = w / 16777216;
-    if 65 < k {
+    let k = w / fields::KIND_UNIT;
+    if kinds::CALL_EXTERNAL_NATIVE < k {
         return 0;
     }
-    if k == 30 || k == 58 || 64 <= k {
-        let b = w / 65536 % 256;
-        return if 64 <= k { b % 128 } else { b };
+    if k == kinds::CALL || k == kinds::POP_N || kinds::CALL_VERIFIED_NATIVE <= k {
+        let b = w / fields::B_UNIT % fields::B_VALUES;
+        return if kinds::CALL_VERIFIED_NATIVE <= k {
+            b % 128
+        } else {
+            b
+        };
     }
-    if k == 34 {
-        return w % 65536;
+    if k == kinds::NEW_COMPOSITE {
+        return w % fields::B_UNIT;
     }
-    if k == 36 {
-        return if w / 65536 % 256 == 1 { 0 } else { 1 };
+    if k == kinds::GET_INDEX {
+        return if w / fields::B_UNIT % fields::B_VALUES == 1 {
+            0
+        } else {
+            1
+        };
     }
-    if k == 50 {
-        return trap_shrink(w % 65536);
+    if k == kinds::TRAP {
+        return trap_shrink(w % fields::B_UNIT);
     }
     row_of(k) % 2
 }

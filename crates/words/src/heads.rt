@@ -1,4 +1,5 @@
 // Where the chunks of a module stand.
+use crate::limits::CHUNKS;
 use crate::parts::parts_at;
 ghost use mathlib.Core.Path.{_≡_};
 ghost use Prim.Native.Nat.{ℕ, _<_};
@@ -25,10 +26,10 @@ pub fn head_of(words: &[u32], c: usize) -> usize
 
 // Where the chunks of a module stand, by index: their heads, ops and extras, and their ends. A module has at most 16,384 words.
 pub struct Places {
-    pub heads: [u16; 256],
-    pub ops: [u16; 256],
-    pub extras: [u16; 256],
-    pub ends: [u16; 256],
+    pub heads: [u16; CHUNKS],
+    pub ops: [u16; CHUNKS],
+    pub extras: [u16; CHUNKS],
+    pub ends: [u16; CHUNKS],
 }
 
 // The places of all chunks of words that are a module of n chunks: each chunk's parts are found once, in one pass in all.
@@ -36,10 +37,10 @@ pub fn chunk_places(words: &[u32], n: usize) -> Places
     requires { ⌜ (read (now words) ≡ ok (chunksIn (now words))) × (n ≡ length (chunksIn (now words))) ⌝ }
     ensures { λ r. ⌜ ((k : ℕ) → k < n → PlacedAt (now (words .entry)) r k) ⌝ }
 {
-    let mut heads = [0u16; 256];
-    let mut ops = [0u16; 256];
-    let mut extras = [0u16; 256];
-    let mut ends = [0u16; 256];
+    let mut heads = [0u16; CHUNKS];
+    let mut ops = [0u16; CHUNKS];
+    let mut extras = [0u16; CHUNKS];
+    let mut ends = [0u16; CHUNKS];
     let mut at = 1;
     let mut i = 0;
     while i < n {

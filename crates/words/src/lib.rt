@@ -2,9 +2,12 @@
 pub mod fields;
 pub mod figures;
 pub mod heads;
+pub mod kinds;
+pub mod limits;
 pub mod lookup;
 pub mod parts;
 pub mod reader;
+pub mod refusals;
 pub mod units;
 pub mod values;
 pub mod whole;

@@ -4,6 +4,7 @@ use crate::parts::Parts;
 use crate::parts::parts_at;
 use crate::reader::Reading;
 use crate::reader::read_module;
+use crate::refusals;
 ghost use mathlib.Core.Path.{_≡_};
 ghost use Rattle.words.specs.Lookup.{lookupOutcome, partsOutcome};
 
@@ -31,7 +32,7 @@ pub fn find_chunk(words: &[u32], c: usize) -> Lookup
         Reading::Accepted(n) => {
             if n as usize <= c {
                 return Lookup::Refused {
-                    number: 12,
+                    number: refusals::NO_SUCH_CHUNK,
                     chunk: c,
                     place: 0,
                 };

@@ -1,4 +1,6 @@
 // The parts of a chunk: where they stand, and each as a part of the caller's list.
+use crate::fields;
+use crate::kinds;
 ghost use mathlib.Core.Path.{_≡_};
 ghost use Prim.Native.Nat.{_+_, _-_, _≤_, _<_};
 ghost use lib.ListN.{length, drop};
@@ -21,7 +23,7 @@ fn behind_run(words: &[u32], from: usize, low: u32, high: u32) -> usize
 {
     let mut i = from;
     while i < words.len() {
-        let kind = words[i] / 16777216;
+        let kind = words[i] / fields::KIND_UNIT;
         if kind < low || high < kind {
             return i;
         }
@@ -35,9 +37,9 @@ pub fn parts_at(words: &[u32], at: usize) -> Parts
     requires { ⌜ at < length (now words) ⌝ }
     ensures { λ r. ⌜ r ≡ partsAt (now (words .entry)) at ⌝ }
 {
-    let ops = behind_run(words, at + 1, 202, 203);
-    let extras = behind_run(words, ops, 0, 65);
-    let end = behind_run(words, extras, 204, 204);
+    let ops = behind_run(words, at + 1, kinds::INTEGER, kinds::OTHER);
+    let extras = behind_run(words, ops, kinds::CONST, kinds::CALL_EXTERNAL_NATIVE);
+    let end = behind_run(words, extras, kinds::EXTRA, kinds::EXTRA);
     parts_from(words, at, ops, extras, end)
 }
 
@@ -48,8 +50,8 @@ pub fn parts_from(words: &[u32], at: usize, ops: usize, extras: usize, end: usiz
 {
     let head = words[at];
     Parts {
-        locals: head % 65536,
-        mode: head / 65536 % 256,
+        locals: head % fields::B_UNIT,
+        mode: head / fields::B_UNIT % fields::B_VALUES,
         constants: at + 1,
         ops,
         extras,

@@ -1,5 +1,10 @@
 // The reader: whether words are a module, and if not, where the form is broken. It goes from stage to stage, and inside a stage past whole parts at once.
+use crate::fields;
 use crate::fields::is_op;
+use crate::kinds;
+use crate::limits::CHUNKS;
+use crate::limits::WORDS;
+use crate::refusals;
 use crate::whole::is_constant;
 use crate::whole::is_extra;
 use crate::whole::past_constants;
@@ -8,6 +13,7 @@ use crate::whole::past_ops;
 ghost use mathlib.Core.Path.{_≡_};
 ghost use Prim.Native.Nat.{_+_, _≤_, _<_};
 ghost use lib.ListN.{length, drop};
+ghost use Rattle.rules.specs.Limits.{mostWords};
 ghost use Rattle.rules.specs.Reading.{beforeChunk, inConstants, inConstant, inOps, inExtras, inExtra, isHead, isChunk};
 ghost use Rattle.rules.specs.Reading.{chunkNext, constantNext, opNext, extraNext, step, mayEnd, brokenAt};
 ghost use Rattle.rules.specs.Sheet.{readOutcome};
@@ -46,18 +52,24 @@ pub enum Found {
     Nothing,
 }
 
+// The chunk count as the head has it.
+const MOST_CHUNKS: u32 = CHUNKS as u32;
+
 // Kind 199, b 0, and from 1 to 256 chunks.
 fn is_head(w: u32) -> bool
     ensures { λ r. ⌜ r ≡ isHead w ⌝ }
 {
-    w / 16777216 == 199 && w / 65536 % 256 == 0 && 1 <= w % 65536 && w % 65536 <= 256
+    w / fields::KIND_UNIT == kinds::MODULE
+        && w / fields::B_UNIT % fields::B_VALUES == 0
+        && 1 <= w % fields::B_UNIT
+        && w % fields::B_UNIT <= MOST_CHUNKS
 }
 
 // Kind 200, and a type from 0 to 2.
 fn is_chunk(w: u32) -> bool
     ensures { λ r. ⌜ r ≡ isChunk w ⌝ }
 {
-    w / 16777216 == 200 && w / 65536 % 256 <= 2
+    w / fields::KIND_UNIT == kinds::CHUNK && w / fields::B_UNIT % fields::B_VALUES <= 2
 }
 
 // A chunk's head, while chunks are to come.
@@ -78,11 +90,11 @@ fn chunk_next(n: u32, w: u32) -> Next
 fn constant_next(n: u32, w: u32) -> Next
     ensures { λ r. ⌜ nextOf r ≡ constantNext n w ⌝ }
 {
-    if is_constant(202, 0, w) {
-        return Next::Goes(Stage::InConstant(202, 1, n));
+    if is_constant(kinds::INTEGER, 0, w) {
+        return Next::Goes(Stage::InConstant(kinds::INTEGER, 1, n));
     }
-    if is_constant(203, 0, w) {
-        Next::Goes(Stage::InConstant(203, 1, n))
+    if is_constant(kinds::OTHER, 0, w) {
+        Next::Goes(Stage::InConstant(kinds::OTHER, 1, n))
     } else {
         Next::Stuck
     }
@@ -199,7 +211,7 @@ fn step_on(s: Stage, w: u32) -> Next
 
 // Behind the whole constants, ops or extras that follow at `from`: read from there, the form is broken where it was.
 fn run_on(words: &[u32], from: usize, s: Stage) -> Place
-    requires { ⌜ (from ≤ length (now words)) × (length (now words) ≤ 16384) × (counter (stageOf s) ≤ from) ⌝ }
+    requires { ⌜ (from ≤ length (now words)) × (length (now words) ≤ mostWords) × (counter (stageOf s) ≤ from) ⌝ }
     ensures within { λ r. ⌜ (from ≤ r .at) × (r .at ≤ length (now (words .entry))) × (counter (stageOf (r .stage)) ≤ r .at) ⌝ }
     ensures same { λ r. ⌜ brokenAt (stageOf s) (drop from (now (words .entry))) from ≡ brokenAt (stageOf (r .stage)) (drop (r .at) (now (words .entry))) (r .at) ⌝ }
 {
@@ -242,7 +254,7 @@ fn may_end(s: Stage) -> bool
 
 // The place at which the form is broken behind a head that announces this many chunks.
 fn broken_at(words: &[u32], chunks: u32) -> Found
-    requires { ⌜ (1 ≤ length (now words)) × (length (now words) ≤ 16384) ⌝ }
+    requires { ⌜ (1 ≤ length (now words)) × (length (now words) ≤ mostWords) ⌝ }
     ensures { λ r. ⌜ foundOf r ≡ brokenAt (beforeChunk chunks) (drop 1 (now (words .entry))) 1 ⌝ }
 {
     let mut s = Stage::BeforeChunk(chunks);
@@ -270,25 +282,25 @@ pub fn read_module(words: &[u32]) -> Reading
     ensures { λ r. ⌜ readingOutcome r ≡ readOutcome (now (words .entry)) ⌝ }
 {
     let n = words.len();
-    if n == 0 || 16384 < n {
+    if n == 0 || WORDS < n {
         return Reading::Refused {
-            number: 1,
+            number: refusals::BAD_HEAD,
             place: 0,
         };
     }
     let head = words[0];
     if !is_head(head) {
         return Reading::Refused {
-            number: 1,
+            number: refusals::BAD_HEAD,
             place: 0,
         };
     }
-    let broken = broken_at(words, head % 65536);
+    let broken = broken_at(words, head % fields::B_UNIT);
     match broken {
         Found::At(i) => Reading::Refused {
-            number: 2,
+            number: refusals::BAD_WORD,
             place: i,
         },
-        Found::Nothing => Reading::Accepted(head % 65536),
+        Found::Nothing => Reading::Accepted(head % fields::B_UNIT),
     }
 }

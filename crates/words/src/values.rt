@@ -1,4 +1,6 @@
 // What the words of a constant and of an extra say.
+use crate::fields;
+use crate::kinds;
 ghost use mathlib.Core.Path.{_≡_};
 ghost use Prim.Native.Nat.{_%_};
 ghost use lib.ListN.{getD};
@@ -12,11 +14,14 @@ pub enum ConstValue {
     Other,
 }
 
+// A word holds 16 bits of a constant.
+const SIXTEEN_BITS: u64 = 65536;
+
 // A word's low 16 bits, wide.
 fn low(w: u32) -> u64
     ensures { λ r. ⌜ r ≡ w % 65536 ⌝ }
 {
-    (w % 65536) as u64
+    (w % fields::B_UNIT) as u64
 }
 
 // Two's complement at 64 bits.
@@ -38,11 +43,13 @@ pub fn constant_at(constants: &[u32], i: usize) -> ConstValue
         return ConstValue::Other;
     }
     let at = 4 * i;
-    if constants[at] / 16777216 != 202 {
+    if constants[at] / fields::KIND_UNIT != kinds::INTEGER {
         return ConstValue::Other;
     }
-    let high = low(constants[at + 2]) + 65536 * low(constants[at + 3]);
-    ConstValue::Int(signed_of(low(constants[at]) + 65536 * (low(constants[at + 1]) + 65536 * high)))
+    let high = low(constants[at + 2]) + SIXTEEN_BITS * low(constants[at + 3]);
+    ConstValue::Int(signed_of(
+        low(constants[at]) + SIXTEEN_BITS * (low(constants[at + 1]) + SIXTEEN_BITS * high),
+    ))
 }
 
 // The extra of an op's position, two words each; a missing one is 0.
@@ -53,5 +60,5 @@ pub fn extra_at(extras: &[u32], i: usize) -> u32
         return 0;
     }
     let at = 2 * i;
-    extras[at] % 65536 + 65536 * (extras[at + 1] % 65536)
+    extras[at] % fields::B_UNIT + fields::B_UNIT * (extras[at + 1] % fields::B_UNIT)
 }

@@ -1,5 +1,7 @@
 // Whole constants, ops and extras: as many as follow one another are passed over in one loop. Read from behind them, the form is broken where it was.
+use crate::fields;
 use crate::fields::is_op;
+use crate::kinds;
 ghost use mathlib.Core.Path.{_≡_};
 ghost use mathlib.Core.Bool.{_&&_};
 ghost use Prim.Native.Nat.{ℕ, _+_, _-_, _/_, _≤_};
@@ -11,22 +13,24 @@ ghost use Rattle.rules.specs.Reading.{inConstants, inOps, inExtras, ofConstants
 pub fn is_constant(k: u32, b: u32, w: u32) -> bool
     ensures { λ r. ⌜ r ≡ isConstant k b w ⌝ }
 {
-    w / 16777216 == k && w / 65536 % 256 == b && (k == 202 || w % 65536 == 0)
+    w / fields::KIND_UNIT == k
+        && w / fields::B_UNIT % fields::B_VALUES == b
+        && (k == kinds::INTEGER || w % fields::B_UNIT == 0)
 }
 
 // Half of an extra: the low one has b 0, the high one b 1.
 pub fn is_extra(b: u32, w: u32) -> bool
     ensures { λ r. ⌜ r ≡ isExtra b w ⌝ }
 {
-    w / 16777216 == 204 && w / 65536 % 256 == b
+    w / fields::KIND_UNIT == kinds::EXTRA && w / fields::B_UNIT % fields::B_VALUES == b
 }
 
 // The four words of a constant.
 fn is_whole_constant(s: u32, t: u32, u: u32, v: u32) -> bool
     ensures { λ r. ⌜ r ≡ (ofConstants s && isConstant (kind s) 0 s && isConstant (kind s) 1 t && isConstant (kind s) 2 u && isConstant (kind s) 3 v) ⌝ }
 {
-    let k = s / 16777216;
-    ((k == 202) | (k == 203))
+    let k = s / fields::KIND_UNIT;
+    ((k == kinds::INTEGER) | (k == kinds::OTHER))
         & is_constant(k, 0, s)
         & is_constant(k, 1, t)
         & is_constant(k, 2, u)

@@ -6,21 +6,6 @@ use Rattle.exports.specs.Packed.{packedCount}
 use Rattle.exports.proofs.pm_count.Statement.{statement}
 use Rattle.exports.proofs.pm_count.Tie as tie
 
-loop-count-requires : tie.Need-loop-count-requires
-loop-count-requires c κs = search needs
-
-enum-known-answer : tie.Need-enum-known-answer
-enum-known-answer c = search needs
-
-cast-result : tie.Need-cast-result
-cast-result c = search needs
-
-enum-known-answer-2 : tie.Need-enum-known-answer-2
-enum-known-answer-2 c = search needs
-
-pack-refusal-requires : tie.Need-pack-refusal-requires
-pack-refusal-requires c κs = search needs
-
 returns : tie.Need-returns
 returns c =
     let r = c .before .before .before in
@@ -35,11 +20,4 @@ returns-2 c =
 pub pm-count-spec : {M : Type 1} → statement M
 pm-count-spec =
     tie.close
-    (tie.spec
-    loop-count-requires
-    enum-known-answer
-    cast-result
-    enum-known-answer-2
-    pack-refusal-requires
-    returns
-    returns-2)
+    (tie.spec (λ c κs. search needs) (λ c. search needs) (λ c. search needs) (λ c. search needs) (λ c κs. search needs) returns returns-2)

@@ -17,12 +17,7 @@ slice-aggregate-answer-2 c =
     let s = c .before .before .before .before in
     sym (length-take-le (s .args .room) (s .args .callees .now) (omega arith))
 
-answer-requires : tie.Need-answer-requires
-answer-requires c κs = search needs
-
-returns : tie.Need-returns
-returns c = search needs
-
 pub answer-front-spec : {M : Type 1} → statement M
 answer-front-spec =
-    tie.close (tie.spec slice-aggregate-answer slice-aggregate-answer-2 answer-requires returns)
+    tie.close
+    (tie.spec slice-aggregate-answer slice-aggregate-answer-2 (λ c κs. search needs) (λ c. search needs))

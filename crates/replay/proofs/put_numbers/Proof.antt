@@ -12,12 +12,7 @@ slice-aggregate-to-words c = sym (length-take-le _ _ (c .before .before .before 
 to-words-requires : tie.Need-to-words-requires
 to-words-requires c κs = rw (length-take-le _ _ (c .before .before .before .before .pre .0)) (c .before .before .before .before .pre .1)
 
-same-length : tie.Need-same-length
-same-length c = search needs
-
-returns : tie.Need-returns
-returns c = search needs
-
 pub put-numbers-spec : {M : Type 1} → statement M
 put-numbers-spec =
-    tie.close (tie.spec slice-aggregate-to-words to-words-requires same-length returns)
+    tie.close
+    (tie.spec slice-aggregate-to-words to-words-requires (λ c. search needs) (λ c. search needs))

@@ -4,6 +4,7 @@ use mathlib.Core.Path.{_≡_}
 use native.Mathlib.Omega.{arith}
 use borrow.Author.Needs.{needs}
 use lib.ListN.{length, getD}
+use Rattle.rules.specs.Text.{lineMost}
 use Rattle.report.proofs.LinesLaws.{Written, written-none, written-more}
 use Rattle.report.proofs.put_lines.Statement.{statement}
 use Rattle.report.proofs.put_lines.Tie as tie
@@ -14,7 +15,6 @@ Inv-loop order cycles peaks bytes n out₀ at end₀ j₀ out end j = (j ≤ n) 
 abbrev μ-loop : tie.MeasureT-loop
 μ-loop order cycles peaks bytes n out₀ at end₀ j₀ out end j = n - j
 
--- src/lib.rt:72:5
 loop-holds : tie.Need-loop-holds Inv-loop μ-loop
 loop-holds c =
     let a = c .before .before .before .before .before .args in
@@ -28,60 +28,41 @@ start i = i .before .before .before .before .before .before .before
 chosen : (i : tie.In-loop Inv-loop μ-loop) → getD (start i .args .order .now) (i .before .loop .j) 0 < start i .args .n
 chosen i = start i .pre .chunks (i .before .loop .j) (i .loop-test .taken)
 
--- src/lib.rt:73:17
 shared-slice-read-c : tie.Need-shared-slice-read-c Inv-loop μ-loop
 shared-slice-read-c c = omega (arith, start (c .before) .pre .order-room, c .before .loop-test .taken)
 
--- src/lib.rt:74:17
 cast-k : tie.Need-cast-k Inv-loop μ-loop
 cast-k c = omega (arith, chosen (c .before), start (c .before) .pre .order-room)
 
--- src/lib.rt:75:34
 cast-put-line : tie.Need-cast-put-line Inv-loop μ-loop
 cast-put-line c = omega (arith, c .before .shared-slice-known5 .given (c .before .before .before .loop .j))
 
--- src/lib.rt:75:44
 mul-put-line : tie.Need-mul-put-line Inv-loop μ-loop
 mul-put-line c = omega (arith, chosen (c .before .before), start (c .before .before) .pre .order-room)
 
--- src/lib.rt:75:44
 shared-slice-read-put-line : tie.Need-shared-slice-read-put-line Inv-loop μ-loop
 shared-slice-read-put-line c = omega (arith, chosen (c .before .before .before), start (c .before .before .before) .pre .cycles-room)
 
--- src/lib.rt:75:55
 mul-put-line-2 : tie.Need-mul-put-line-2 Inv-loop μ-loop
 mul-put-line-2 c = omega (arith, chosen (c .before .before .before), start (c .before .before .before) .pre .order-room)
 
--- src/lib.rt:75:55
 shared-slice-read-put-line-2 : tie.Need-shared-slice-read-put-line-2 Inv-loop μ-loop
 shared-slice-read-put-line-2 c = omega (arith, chosen (c .before .before .before .before), start (c .before .before .before .before) .pre .peaks-room)
 
--- src/lib.rt:75:65
 mul-put-line-3 : tie.Need-mul-put-line-3 Inv-loop μ-loop
 mul-put-line-3 c = omega (arith, chosen (c .before .before .before .before), start (c .before .before .before .before) .pre .order-room)
 
--- src/lib.rt:75:65
 shared-slice-read-put-line-3 : tie.Need-shared-slice-read-put-line-3 Inv-loop μ-loop
 shared-slice-read-put-line-3 c = omega (arith, chosen (c .before .before .before .before .before), start (c .before .before .before .before .before) .pre .bytes-room)
 
--- src/lib.rt:75:9
 put-line-requires : tie.Need-put-line-requires Inv-loop μ-loop
 put-line-requires c κs =
     let i = c .before .before .before .before .before in
     let w = i .before .loop .inv .1 in
     let e : length (i .before .loop .out) ≡ length (start i .args .out .now) = w .2 in
-    let fits : i .before .loop .end + 44 ≤ length (i .before .loop .out) = omega (arith, w .1, start i .pre .out-room, i .loop-test .taken) in
+    let fits : i .before .loop .end + lineMost ≤ length (i .before .loop .out) = omega (arith, w .1, start i .pre .out-room, i .loop-test .taken) in
     fits
 
--- src/lib.rt:76:9
-add-j : tie.Need-add-j Inv-loop μ-loop
-add-j c = search needs
-
--- src/lib.rt:72:5
-loop-less : tie.Need-loop-less Inv-loop μ-loop
-loop-less c = search needs
-
--- src/lib.rt:72:5
 loop-again : tie.Need-loop-again Inv-loop μ-loop
 loop-again c =
     let i = c .before .before .before .before .before .before .before .before in
@@ -94,11 +75,9 @@ loop-again c =
           (p .0, p .1 .0) (p .1 .1),
     )
 
--- src/lib.rt:57:1
 same-length : tie.Need-same-length Inv-loop μ-loop
 same-length c = c .before .loop .inv .1 .2
 
--- src/lib.rt:57:1
 returns : tie.Need-returns Inv-loop μ-loop
 returns c =
     let l = c .before .loop in
@@ -108,22 +87,6 @@ returns c =
 pub put-lines-spec : {M : Type 1} → statement M
 put-lines-spec =
     tie.close
-    (tie.spec
-    Inv-loop
-    μ-loop
-    loop-holds
-    shared-slice-read-c
-    cast-k
-    cast-put-line
-    mul-put-line
-    shared-slice-read-put-line
-    mul-put-line-2
-    shared-slice-read-put-line-2
-    mul-put-line-3
-    shared-slice-read-put-line-3
-    put-line-requires
-    add-j
-    loop-less
-    loop-again
-    same-length
-    returns)
+    (tie.spec Inv-loop μ-loop loop-holds shared-slice-read-c cast-k cast-put-line mul-put-line shared-slice-read-put-line mul-put-line-2
+    shared-slice-read-put-line-2 mul-put-line-3 shared-slice-read-put-line-3 put-line-requires (λ c. search needs) (λ c. search needs) loop-again
+    same-length returns)

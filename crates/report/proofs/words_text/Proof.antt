@@ -4,7 +4,7 @@ use Prim.Native.Nat.{_≤_}
 use native.Mathlib.Omega.{arith}
 use lib.ListN.{length}
 use borrow.Author.Needs.{needs}
-use Rattle.rules.specs.Text.{heading}
+use Rattle.rules.specs.Text.{heading, sheetMost}
 use Rattle.words.proofs.LookupLaws.{accepted}
 use Rattle.order.specs.Search.{Readable}
 use Rattle.text.proofs.PasteLaws.{then, pasted-length}
@@ -12,37 +12,12 @@ use Rattle.report.proofs.TextLaws.{same-text, unread-text, refused-text
 use Rattle.report.proofs.words_text.Statement.{statement}
 use Rattle.report.proofs.words_text.Tie as tie
 
--- src/lib.rt:35:9
-read-module-requires : tie.Need-read-module-requires
-read-module-requires c κs = search needs
-
--- src/lib.rt:37:28
-enum-known-reading : tie.Need-enum-known-reading
-enum-known-reading c = search needs
-
--- src/lib.rt:38:13
-put-refused-requires : tie.Need-put-refused-requires
-put-refused-requires c κs = search needs
-
--- src/lib.rt:38:13
-same-length : tie.Need-same-length
-same-length c = search needs
-
--- src/lib.rt:38:13
 returns : tie.Need-returns
 returns c =
     let t = c .before .before in
     let k = t .before .before in
     let r = k .before .before .before in
     same-text _ _ _ (t .put-refused .ensures) (unread-text (r .before .before .before .args .words .now) _ _ (rw (k .before .reading .given .1) at (r .read-module .ensures)))
-
--- src/lib.rt:40:27
-enum-known-reading-2 : tie.Need-enum-known-reading-2
-enum-known-reading-2 c = search needs
-
--- src/lib.rt:40:38
-cast-n : tie.Need-cast-n
-cast-n c = search needs
 
 -- the reader accepted the words
 accepted-words : (c : tie.After-known-told2) → Readable (c .before .before .before .before .before .before .args .words .now) (c .before .reading2 .given .0 .0)
@@ -51,19 +26,9 @@ accepted-words c =
     let a = accepted (r .before .before .before .args .words .now) _ (rw (c .before .reading2 .given .1) at (r .read-module .ensures)) in
     record { reads = a .0; chunks = sym (a .1) }
 
--- src/lib.rt:42:9
 sheet-of-requires : tie.Need-sheet-of-requires
 sheet-of-requires c κs = accepted-words c
 
--- src/lib.rt:44:9
-put-refused-requires-2 : tie.Need-put-refused-requires-2
-put-refused-requires-2 c κs = search needs
-
--- src/lib.rt:44:9
-same-length-2 : tie.Need-same-length-2
-same-length-2 c = search needs
-
--- src/lib.rt:44:9
 returns-2 : tie.Need-returns-2
 returns-2 c =
     let t = c .before .before in
@@ -75,40 +40,31 @@ returns-2 c =
 abbrev start : tie.After-put-heading-arg → tie.Start
 start c = c .before .before .before .before .before .before .before .before .before .before .before .before .before
 
--- src/lib.rt:50:9
-put-heading-requires : tie.Need-put-heading-requires
-put-heading-requires c κs = search needs
-
--- src/lib.rt:51:15
 slice-aggregate-put-lines : tie.Need-slice-aggregate-put-lines
 slice-aggregate-put-lines c = search needs
 
--- src/lib.rt:51:23
 slice-aggregate-put-lines-2 : tie.Need-slice-aggregate-put-lines-2
 slice-aggregate-put-lines-2 c = search needs
 
--- src/lib.rt:51:32
 slice-aggregate-put-lines-3 : tie.Need-slice-aggregate-put-lines-3
 slice-aggregate-put-lines-3 c = search needs
 
--- src/lib.rt:51:40
 slice-aggregate-put-lines-4 : tie.Need-slice-aggregate-put-lines-4
 slice-aggregate-put-lines-4 c = search needs
 
 -- where the heading is written, the buffer is as long as before
-heading-room : (h : tie.After-put-heading) → 11288 ≤ length (h .put-heading .last .0)
+heading-room : (h : tie.After-put-heading) → sheetMost ≤ length (h .put-heading .last .0)
 heading-room h =
-    let long : 11288 ≤ length (start (h .before) .args .out .now) = start (h .before) .pre in
+    let long : sheetMost ≤ length (start (h .before) .args .out .now) = start (h .before) .pre in
     let size = ap length (h .put-heading .ensures .0) ∙ pasted-length 0 heading (start (h .before) .args .out .now) (omega arith) in
     omega (arith, size)
 
--- src/lib.rt:51:5
 put-lines-requires : tie.Need-put-lines-requires
 put-lines-requires c κs =
     let h = c .before .before .before .before .before .before .before in
     let e = h .before .before .before .before .before .before in
     let f = e .before in
-    let room : 11288 ≤ length (h .put-heading .last .0) = heading-room h in
+    let room : sheetMost ≤ length (h .put-heading .last .0) = heading-room h in
     rw (h .put-heading .ensures .1)
     (lines-fit (accepted-words (f .before)) _ (f .sheet-of .ensures) (e .if1 .left)
     (omega (arith, slice-aggregate-put-lines (c .before .before .before .before)))
@@ -117,11 +73,6 @@ put-lines-requires c κs =
     (omega (arith, slice-aggregate-put-lines-4 (c .before)))
     _ room)
 
--- src/lib.rt:31:1
-same-length-3 : tie.Need-same-length-3
-same-length-3 c = search needs
-
--- src/lib.rt:31:1
 returns-3 : tie.Need-returns-3
 returns-3 c =
     let p = c .before .before in
@@ -129,30 +80,13 @@ returns-3 c =
     let e = h .before .before .before .before .before .before in
     let f = e .before in
     let out = start (h .before) .args .out .now in
-    let long : 11288 ≤ length out = start (h .before) .pre in
+    let long : sheetMost ≤ length out = start (h .before) .pre in
     let both = then 0 heading _ out (omega arith) (h .put-heading .ensures) (p .put-lines .ensures) in
     same-text _ _ _ both (answered-text (accepted-words (f .before)) _ (f .sheet-of .ensures) (e .if1 .left))
 
 pub words-text-spec : {M : Type 1} → statement M
 words-text-spec =
     tie.close
-    (tie.spec
-    read-module-requires
-    enum-known-reading
-    put-refused-requires
-    same-length
-    returns
-    enum-known-reading-2
-    cast-n
-    sheet-of-requires
-    put-refused-requires-2
-    same-length-2
-    returns-2
-    put-heading-requires
-    slice-aggregate-put-lines
-    slice-aggregate-put-lines-2
-    slice-aggregate-put-lines-3
-    slice-aggregate-put-lines-4
-    put-lines-requires
-    same-length-3
-    returns-3)
+    (tie.spec (λ c κs. search needs) (λ c. search needs) (λ c κs. search needs) (λ c. search needs) returns (λ c. search needs) (λ c. search needs)
+    sheet-of-requires (λ c κs. search needs) (λ c. search needs) returns-2 (λ c κs. search needs) slice-aggregate-put-lines
+    slice-aggregate-put-lines-2 slice-aggregate-put-lines-3 slice-aggregate-put-lines-4 put-lines-requires (λ c. search needs) returns-3)

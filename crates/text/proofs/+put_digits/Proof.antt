@@ -34,51 +34,22 @@ put-digits-calls t = (put-reads.Asked, put-reads.Learnt, put-digits-below t, put
 abbrev put-digits-need : (put-digits-lts.Claims → In 1 put-digits-kinds.ps → Out 1 put-digits-kinds.ps put-digits-kinds.r → Type 0) → Type 0
 put-digits-need N = (t : ℕ) → N (put-digits-calls t) (put-digits-at t) put-digits.Post
 
--- src/lib.rt:74:34
-put-digits-cast-put : put-digits-need put-digits-lts.Need-cast-put
-put-digits-cast-put t c = omega arith
-
--- src/lib.rt:74:29
-put-digits-add-put : put-digits-need put-digits-lts.Need-add-put
-put-digits-add-put t c = omega arith
-
--- src/lib.rt:74:9
 put-digits-put-requires : put-digits-need put-digits-lts.Need-put-requires
 put-digits-put-requires t c κs =
     let h = c .before .if1 .taken in
     omega (arith, ap length (decimal-small (c .before .before .before .args .n) h))
 
--- src/lib.rt:74:9
-put-digits-same-length : put-digits-need put-digits-lts.Need-same-length
-put-digits-same-length t c = search needs
-
--- src/lib.rt:74:9
 put-digits-returns : put-digits-need put-digits-lts.Need-returns
 put-digits-returns t c = rw (decimal-small _ (c .before .before .before .before .if1 .taken)) (c .before .before .put .ensures)
 
--- src/lib.rt:76:9
 put-digits-put-digits-requires : put-digits-need put-digits-lts.Need-put-digits-requires
 put-digits-put-digits-requires t c κs = omega (arith, decimal-tenth (c .before .before .before .args .n) (c .before .if1 .left))
 
--- src/lib.rt:77:25
-put-digits-cast-put-2 : put-digits-need put-digits-lts.Need-cast-put-2
-put-digits-cast-put-2 t c = omega arith
-
--- src/lib.rt:77:20
-put-digits-add-put-2 : put-digits-need put-digits-lts.Need-add-put-2
-put-digits-add-put-2 t c = omega arith
-
--- src/lib.rt:77:5
 put-digits-put-requires-2 : put-digits-need put-digits-lts.Need-put-requires-2
 put-digits-put-requires-2 t c κs =
     let other = c .before .before .before .before .before in
     omega (arith, decimal-tenth (other .before .before .args .n) (other .if1 .left))
 
--- src/lib.rt:68:1
-put-digits-same-length-2 : put-digits-need put-digits-lts.Need-same-length-2
-put-digits-same-length-2 t c = search needs
-
--- src/lib.rt:68:1
 put-digits-returns-2 : put-digits-need put-digits-lts.Need-returns-2
 put-digits-returns-2 t c =
     let tens = c .before .before .before .before .before .before in
@@ -91,14 +62,14 @@ pub +put-digits-spec : {M : Type 1} → statement M
 +put-digits-spec = close μ-put-digits λ t. put-digits-lts.spec (put-digits-calls t)
     (put-digits-at t)
     put-digits.Post
-    (put-digits-cast-put t)
-    (put-digits-add-put t)
+    (λ c. omega arith)
+    (λ c. omega arith)
     (put-digits-put-requires t)
-    (put-digits-same-length t)
+    (λ c. search needs)
     (put-digits-returns t)
     (put-digits-put-digits-requires t)
-    (put-digits-cast-put-2 t)
-    (put-digits-add-put-2 t)
+    (λ c. omega arith)
+    (λ c. omega arith)
     (put-digits-put-requires-2 t)
-    (put-digits-same-length-2 t)
+    (λ c. search needs)
     (put-digits-returns-2 t)

@@ -5,21 +5,10 @@ use Rattle.text.proofs.PasteLaws.{pasted-one}
 use Rattle.text.proofs.put.Statement.{statement}
 use Rattle.text.proofs.put.Tie as tie
 
--- src/lib.rt:49:5
-slice-write-out : tie.Need-slice-write-out
-slice-write-out c = search needs
-
--- src/lib.rt:50:5
-add-result : tie.Need-add-result
-add-result c = search needs
-
--- src/lib.rt:44:1
-same-length : tie.Need-same-length
-same-length c = search needs
-
--- src/lib.rt:44:1
 returns : tie.Need-returns
 returns c = (pasted-one _ _ _ (c .pre), refl)
 
 pub put-spec : {M : Type 1} → statement M
-put-spec = tie.close (tie.spec slice-write-out add-result same-length returns)
+put-spec =
+    tie.close
+    (tie.spec (λ c. search needs) (λ c. search needs) (λ c. search needs) returns)

@@ -7,21 +7,14 @@ use borrow.Author.Needs.{needs}
 use Rattle.text.proofs.put_field.Statement.{statement}
 use Rattle.text.proofs.put_field.Tie as tie
 
--- src/lib.rt:95:9
 put-digits-requires : tie.Need-put-digits-requires
 put-digits-requires c κs = omega (arith, field-length (c .before .before .args .n) (c .before .before .args .end))
 
--- src/lib.rt:96:5
 put-requires : tie.Need-put-requires
 put-requires c κs =
     let start = c .before .before .before .before .before .before in
     omega (arith, field-length (start .args .n) (start .args .end))
 
--- src/lib.rt:90:1
-same-length : tie.Need-same-length
-same-length c = search needs
-
--- src/lib.rt:90:1
 returns : tie.Need-returns
 unfolding fieldText
 returns c =
@@ -30,4 +23,6 @@ returns c =
     then _ _ _ _ (omega (arith, field-length (start .args .n) (start .args .end))) (digits .put-digits .ensures) (c .before .before .put .ensures)
 
 pub put-field-spec : {M : Type 1} → statement M
-put-field-spec = tie.close (tie.spec put-digits-requires put-requires same-length returns)
+put-field-spec =
+    tie.close
+    (tie.spec put-digits-requires put-requires (λ c. search needs) returns)

@@ -14,29 +14,20 @@ sizes : (s : tie.Start) → let a = s .args in
     × (length (fieldText (a .peak) 32) ≤ 11) × (length (fieldText (a .bytes) 10) ≤ 11)
 sizes s = (short-field _ _ (omega arith), short-field _ _ (omega arith), short-field _ _ (omega arith), short-field _ _ (omega arith))
 
--- src/lib.rt:114:9
 put-field-requires : tie.Need-put-field-requires
 put-field-requires c κs = omega (arith, sizes (c .before .before))
 
--- src/lib.rt:115:9
 put-field-requires-2 : tie.Need-put-field-requires-2
 put-field-requires-2 c κs = omega (arith, sizes (c .before .before .before .before .before .before))
 
--- src/lib.rt:116:9
 put-field-requires-3 : tie.Need-put-field-requires-3
 put-field-requires-3 c κs = omega (arith, sizes (c .before .before .before .before .before .before .before .before .before .before))
 
--- src/lib.rt:117:5
 put-field-requires-4 : tie.Need-put-field-requires-4
 put-field-requires-4 c κs =
     let second = c .before .before .before .before .before .before .before in
     omega (arith, sizes (second .before .before .before .before .before .before .before))
 
--- src/lib.rt:109:1
-same-length : tie.Need-same-length
-same-length c = search needs
-
--- src/lib.rt:109:1
 returns : tie.Need-returns
 returns c =
     let third = c .before .before .before .before .before .before in
@@ -56,10 +47,4 @@ returns c =
 pub put-line-spec : {M : Type 1} → statement M
 put-line-spec =
     tie.close
-    (tie.spec
-    put-field-requires
-    put-field-requires-2
-    put-field-requires-3
-    put-field-requires-4
-    same-length
-    returns)
+    (tie.spec put-field-requires put-field-requires-2 put-field-requires-3 put-field-requires-4 (λ c. search needs) returns)

@@ -13,33 +13,17 @@ sizes : (s : tie.Start) → let a = s .args in
     (length (fieldText (a .number) 32) ≤ 11) × (length (fieldText (a .chunk) 32) ≤ 21) × (length (fieldText (a .place) 10) ≤ 21)
 sizes s = (short-field _ _ (omega arith), long-field _ _ (omega arith), long-field _ _ (omega arith))
 
--- src/lib.rt:126:36
-slice-aggregate-put-bytes : tie.Need-slice-aggregate-put-bytes
-slice-aggregate-put-bytes c = search needs
-
--- src/lib.rt:126:9
-put-bytes-requires : tie.Need-put-bytes-requires
-put-bytes-requires c κs = search needs
-
--- src/lib.rt:127:9
 put-field-requires : tie.Need-put-field-requires
 put-field-requires c κs = omega (arith, sizes (c .before .before .before .before .before .before .before))
 
--- src/lib.rt:128:9
 put-field-requires-2 : tie.Need-put-field-requires-2
 put-field-requires-2 c κs = omega (arith, sizes (c .before .before .before .before .before .before .before .before .before .before .before))
 
--- src/lib.rt:129:5
 put-field-requires-3 : tie.Need-put-field-requires-3
 put-field-requires-3 c κs =
     let first = c .before .before .before .before .before .before .before in
     omega (arith, sizes (first .before .before .before .before .before .before .before .before))
 
--- src/lib.rt:121:1
-same-length : tie.Need-same-length
-same-length c = search needs
-
--- src/lib.rt:121:1
 returns : tie.Need-returns
 returns c =
     let third = c .before .before .before .before .before .before in
@@ -55,11 +39,4 @@ returns c =
 pub put-refused-spec : {M : Type 1} → statement M
 put-refused-spec =
     tie.close
-    (tie.spec
-    slice-aggregate-put-bytes
-    put-bytes-requires
-    put-field-requires
-    put-field-requires-2
-    put-field-requires-3
-    same-length
-    returns)
+    (tie.spec (λ c. search needs) (λ c κs. search needs) put-field-requires put-field-requires-2 put-field-requires-3 (λ c. search needs) returns)

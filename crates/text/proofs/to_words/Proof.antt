@@ -17,42 +17,18 @@ Inv-loop bytes words₀ n i₀ words i = (i ≤ n) × (length words ≡ length w
 abbrev μ-loop : tie.MeasureT-loop
 μ-loop bytes words₀ n i₀ words i = n - i
 
--- src/lib.rt:36:5
 loop-holds : tie.Need-loop-holds Inv-loop μ-loop
 loop-holds c = (omega arith, refl, sym (pasted-none _ _))
 
--- src/lib.rt:37:20
-word-at-requires : tie.Need-word-at-requires Inv-loop μ-loop
-word-at-requires c κs = search needs
-
--- src/lib.rt:37:9
-mul-words : tie.Need-mul-words Inv-loop μ-loop
-mul-words c = search needs
-
--- src/lib.rt:37:9
-slice-write-words : tie.Need-slice-write-words Inv-loop μ-loop
-slice-write-words c = search needs
-
--- src/lib.rt:38:9
-add-i : tie.Need-add-i Inv-loop μ-loop
-add-i c = search needs
-
--- src/lib.rt:36:5
-loop-less : tie.Need-loop-less Inv-loop μ-loop
-loop-less c = search needs
-
--- src/lib.rt:36:5
 loop-again : tie.Need-loop-again Inv-loop μ-loop
 loop-again c =
     let l = c .before .before .loop in
     let start = c .before .before .before .before .before in
     (omega arith, simp length-set (l .inv .1), rw (l .inv .2, c .word-at .ensures) (more-words _ _ (start .pre) (l .i) (c .before .loop-test .taken)))
 
--- src/lib.rt:30:1
 same-length : tie.Need-same-length Inv-loop μ-loop
 same-length c = c .before .loop .inv .1
 
--- src/lib.rt:30:1
 returns : tie.Need-returns Inv-loop μ-loop
 returns c =
     let l = c .before .loop in
@@ -62,15 +38,5 @@ returns c =
 pub to-words-spec : {M : Type 1} → statement M
 to-words-spec =
     tie.close
-    (tie.spec
-    Inv-loop
-    μ-loop
-    loop-holds
-    word-at-requires
-    mul-words
-    slice-write-words
-    add-i
-    loop-less
-    loop-again
-    same-length
-    returns)
+    (tie.spec Inv-loop μ-loop loop-holds (λ c κs. search needs) (λ c. search needs) (λ c. search needs) (λ c. search needs) (λ c. search needs)
+    loop-again same-length returns)

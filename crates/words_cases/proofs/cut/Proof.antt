@@ -11,25 +11,7 @@ Inv-loop n₀ n = n ≤ 11
 abbrev μ-loop : tie.MeasureT-loop
 μ-loop n₀ n = 11 - n
 
-loop-holds : tie.Need-loop-holds Inv-loop μ-loop
-loop-holds c = omega arith
-
-cut-to-requires : tie.Need-cut-to-requires Inv-loop μ-loop
-cut-to-requires c κs = omega arith
-
-add-n : tie.Need-add-n Inv-loop μ-loop
-add-n c = omega arith
-
-loop-less : tie.Need-loop-less Inv-loop μ-loop
-loop-less c = omega arith
-
-loop-again : tie.Need-loop-again Inv-loop μ-loop
-loop-again c = omega arith
-
-returns : tie.Need-returns Inv-loop μ-loop
-returns c = tt
-
 pub cut-spec : {M : Type 1} → statement M
 cut-spec =
     tie.close
-    (tie.spec Inv-loop μ-loop loop-holds cut-to-requires add-n loop-less loop-again returns)
+    (tie.spec Inv-loop μ-loop (λ c. omega arith) (λ c κs. omega arith) (λ c. omega arith) (λ c. omega arith) (λ c. omega arith) (λ c. tt))

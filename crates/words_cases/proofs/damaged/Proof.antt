@@ -11,25 +11,7 @@ Inv-loop i₀ i = i ≤ 10
 abbrev μ-loop : tie.MeasureT-loop
 μ-loop i₀ i = 10 - i
 
-loop-holds : tie.Need-loop-holds Inv-loop μ-loop
-loop-holds c = omega arith
-
-damaged-at-requires : tie.Need-damaged-at-requires Inv-loop μ-loop
-damaged-at-requires c κs = omega arith
-
-add-i : tie.Need-add-i Inv-loop μ-loop
-add-i c = omega arith
-
-loop-less : tie.Need-loop-less Inv-loop μ-loop
-loop-less c = omega arith
-
-loop-again : tie.Need-loop-again Inv-loop μ-loop
-loop-again c = omega arith
-
-returns : tie.Need-returns Inv-loop μ-loop
-returns c = tt
-
 pub damaged-spec : {M : Type 1} → statement M
 damaged-spec =
     tie.close
-    (tie.spec Inv-loop μ-loop loop-holds damaged-at-requires add-i loop-less loop-again returns)
+    (tie.spec Inv-loop μ-loop (λ c. omega arith) (λ c κs. omega arith) (λ c. omega arith) (λ c. omega arith) (λ c. omega arith) (λ c. tt))

@@ -9,11 +9,7 @@ use Rattle.words_cases.proofs.show_front.Tie as tie
 slice-aggregate-show-at : tie.Need-slice-aggregate-show-at
 slice-aggregate-show-at c = sym (length-take-le _ _ (c .before .before .before .pre))
 
-show-at-requires : tie.Need-show-at-requires
-show-at-requires c κs = search needs
-
-returns : tie.Need-returns
-returns c = search needs
-
 pub show-front-spec : {M : Type 1} → statement M
-show-front-spec = tie.close (tie.spec slice-aggregate-show-at show-at-requires returns)
+show-front-spec =
+    tie.close
+    (tie.spec slice-aggregate-show-at (λ c κs. search needs) (λ c. search needs))

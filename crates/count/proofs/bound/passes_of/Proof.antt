@@ -9,15 +9,12 @@ use Rattle.count.proofs.PassLaws.{below, not-below, high, high-fits, ro
 use Rattle.count.proofs.bound.passes_of.Statement.{statement}
 use Rattle.count.proofs.bound.passes_of.Tie as tie
 
--- src/bound.rt:124:9
 returns : tie.Need-returns
 returns c = let f = c .before .fits in sym (passes-none _ _ (f .start) (f .stop) (c .if1 .taken))
 
--- src/bound.rt:127:12
 add-if3 : tie.Need-add-if3
 add-if3 c = room _ (c .before .before .fits .start) (c .if2 .taken) .0
 
--- src/bound.rt:128:13
 returns-2 : tie.Need-returns-2
 returns-2 c =
     let f = c .before .before .before .fits in
@@ -40,22 +37,21 @@ near c =
           (c .if2 .came),
     )
 
--- src/bound.rt:131:19
 sub-t6 : tie.Need-sub-t6
 sub-t6 c = let f = c .before .before .fits in difference-fits _ _ (f .start) (f .stop) (near c .0) (near c .1)
 
--- src/bound.rt:131:18
 cast-t7 : tie.Need-cast-t7
 cast-t7 c =
     let f = c .before .before .fits in
     let n = near c in
     rw (difference-back _ _ (f .start) (f .stop) (n .0) (n .1)) (tt, record { fits = omega arith })
 
--- src/bound.rt:120:1
 returns-3 : tie.Need-returns-3
 returns-3 c =
     let f = c .before .before .fits in
     rw (difference-back _ _ (f .start) (f .stop) (near c .0) (near c .1)) (sym (passes-few _ _ (f .start) (f .stop) (near c .0) (near c .1)))
 
 pub passes-of-spec : {M : Type 1} → statement M
-passes-of-spec = tie.close (tie.spec returns add-if3 returns-2 sub-t6 cast-t7 returns-3)
+passes-of-spec =
+    tie.close
+    (tie.spec returns add-if3 returns-2 sub-t6 cast-t7 returns-3)

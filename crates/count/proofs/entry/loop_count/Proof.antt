@@ -17,35 +17,15 @@ use Rattle.count.proofs.entry.loop_count.Tie as tie
 there : (c : tie.After-known-told2) → let a = c .before .before .before .before .before .args in Chunked (a .words .now) (a .c) (c .before .found2 .given .0 .0)
 there c = lookup-found _ _ _ (sym (ap lookupOutcome (c .before .found2 .given .1)) ∙ c .before .before .before .find-chunk .ensures)
 
--- src/entry.rt:26:9
-find-chunk-requires : tie.Need-find-chunk-requires
-find-chunk-requires c κs = search needs
-
--- src/entry.rt:29:13
-enum-known-found : tie.Need-enum-known-found
-enum-known-found c = search needs
-
--- src/entry.rt:37:20
-enum-known-found-2 : tie.Need-enum-known-found-2
-enum-known-found-2 c = search needs
-
--- src/entry.rt:38:17
 constants-of-requires : tie.Need-constants-of-requires
 constants-of-requires c κs = let h = there c .parts in omega arith
 
--- src/entry.rt:39:17
 ops-of-requires : tie.Need-ops-of-requires
 ops-of-requires c κs = let h = there (c .before) .parts in omega arith
 
--- src/entry.rt:40:17
 extract-loop-iteration-bound-requires : tie.Need-extract-loop-iteration-bound-requires
 extract-loop-iteration-bound-requires c κs = ops-short _ _ (there (c .before .before)) (c .ops-of .ensures)
 
--- src/entry.rt:42:30
-enum-known-bound : tie.Need-enum-known-bound
-enum-known-bound c = search needs
-
--- src/entry.rt:43:35
 enum-told : tie.Need-enum-told
 enum-told c = search needs
 
@@ -58,32 +38,19 @@ told c =
     count-told (a .words .now) (a .c) (there (o .before .before)) (o .ops-of .ensures) (o .before .constants-of .ensures) (a .p)
     (c .extract-loop-iteration-bound .ensures)
 
--- src/entry.rt:23:1
 returns : tie.Need-returns
 returns c =
     let a = c .before .before .before .before .before .args in
     count-refused (a .words .now) (a .c) _ _ _ _ (sym (ap lookupOutcome (c .before .found .given .1)) ∙ c .before .before .before .find-chunk .ensures)
 
--- src/entry.rt:23:1
 returns-2 : tie.Need-returns-2
 returns-2 c = rw (c .before .bound .given .1) at (told (c .before .before .before))
 
--- src/entry.rt:23:1
 returns-3 : tie.Need-returns-3
 returns-3 c = rw (c .enum-told .given .1) at (told (c .before .before))
 
 pub loop-count-spec : {M : Type 1} → statement M
 loop-count-spec =
     tie.close
-    (tie.spec
-    find-chunk-requires
-    enum-known-found
-    enum-known-found-2
-    constants-of-requires
-    ops-of-requires
-    extract-loop-iteration-bound-requires
-    enum-known-bound
-    enum-told
-    returns
-    returns-2
-    returns-3)
+    (tie.spec (λ c κs. search needs) (λ c. search needs) (λ c. search needs) constants-of-requires ops-of-requires
+    extract-loop-iteration-bound-requires (λ c. search needs) enum-told returns returns-2 returns-3)

@@ -51,63 +51,34 @@ no-literal : (t : ℕ) (c : lts.Joined2 (calls t) (at t) reads.Post) → let e =
     (eqb (kind w) 34 && eqb (fieldB w) 1) ≡ false
 no-literal t c = ⊎-elim (λ w. simp (eq-eqb _ _ (w .0 .taken), w .1 .left)) (λ w. simp (ne-eqb _ _ (w .left))) (c .if2 .came)
 
--- src/search.rt:58:9
-last-set-requires : need lts.Need-last-set-requires
-last-set-requires t c κs = search needs
-
--- src/search.rt:59:19
-enum-known-found : need lts.Need-enum-known-found
-enum-known-found t c = search needs
-
--- src/search.rt:60:9
 enum-told : need lts.Need-enum-told
 enum-told t c = search needs
 
--- src/search.rt:60:9
 returns : need lts.Need-returns
 returns t c = sym (array-none _ _ _ (sym (c .before .before .last-set .ensures) ∙ ap foundOf (c .enum-told .given .1)))
 
--- src/search.rt:63:9
 returns-2 : need lts.Need-returns-2
 returns-2 t c =
     let p = c .before .before in
     sym (array-first _ _ _ (sym (p .before .before .last-set .ensures) ∙ ap foundOf (p .found .given .1) ∙ ap found (c .if1 .taken)))
 
--- src/search.rt:65:17
-sub-w : need lts.Need-sub-w
-sub-w t c = search needs
-
--- src/search.rt:65:13
 mul-w : need lts.Need-mul-w
 mul-w t c = omega (arith, here t c)
 
--- src/search.rt:65:13
 shared-slice-read-w : need lts.Need-shared-slice-read-w
 shared-slice-read-w t c = omega (arith, here t (c .before))
 
--- src/search.rt:68:26
-cast-t18 : need lts.Need-cast-t18
-cast-t18 t c = record { sfits = omega arith }
-
--- src/search.rt:68:9
 returns-3 : need lts.Need-returns-3
 returns-3 t c = rw field-value (sym (array-at (here t (c .before .before .before)) ∙ simp (eq-eqb _ _ (c .before .if2 .taken), c .if3 .taken)))
 
--- src/search.rt:71:48
-sub-again : need lts.Need-sub-trace-literal-array-length
-sub-again t c = search needs
-
--- src/search.rt:71:9
 again-requires : need lts.Need-trace-literal-array-length-requires
 again-requires t c κs = omega (arith, here t (c .before .before .before))
 
--- src/search.rt:71:9
 returns-4 : need lts.Need-returns-4
 returns-4 t c =
     let j = c .before .before in
     c .trace-literal-array-length .ensures ∙ sym (array-at (here t (j .before .before)) ∙ rw (no-literal t j) (simp (eq-eqb _ _ (c .before .if4 .taken))))
 
--- src/search.rt:54:1
 returns-5 : need lts.Need-returns-5
 returns-5 t c = let j = c .before in sym (array-at (here t (j .before .before)) ∙ rw (no-literal t j) (simp (ne-eqb _ _ (c .if4 .left))))
 
@@ -116,17 +87,17 @@ pub +trace-literal-array-length-spec : {M : Type 1} → statement M
     close μ λ t. lts.spec (calls t)
     (at t)
     reads.Post
-    (last-set-requires t)
-    (enum-known-found t)
+    (λ c κs. search needs)
+    (λ c. search needs)
     (enum-told t)
     (returns t)
     (returns-2 t)
-    (sub-w t)
+    (λ c. search needs)
     (mul-w t)
     (shared-slice-read-w t)
-    (cast-t18 t)
+    (λ c. record { sfits = omega arith })
     (returns-3 t)
-    (sub-again t)
+    (λ c. search needs)
     (again-requires t)
     (returns-4 t)
     (returns-5 t)

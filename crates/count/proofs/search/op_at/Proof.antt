@@ -7,21 +7,13 @@ use Rattle.count.proofs.SearchLaws.{read-op}
 use Rattle.count.proofs.search.op_at.Statement.{statement}
 use Rattle.count.proofs.search.op_at.Tie as tie
 
--- src/search.rt:29:24
-mul-result : tie.Need-mul-result
-mul-result c = search needs
-
--- src/search.rt:29:24
-shared-slice-read-result : tie.Need-shared-slice-read-result
-shared-slice-read-result c = search needs
-
--- src/search.rt:26:1
 returns : tie.Need-returns
 returns c = sym (read-op (c .before .before .args .ops .now) _ (c .before .if1 .taken))
 
--- src/search.rt:26:1
 returns-2 : tie.Need-returns-2
 returns-2 c = sym (List·getD-eq-default (c .before .args .ops .now) _ (c .if1 .left))
 
 pub op-at-spec : {M : Type 1} → statement M
-op-at-spec = tie.close (tie.spec mul-result shared-slice-read-result returns returns-2)
+op-at-spec =
+    tie.close
+    (tie.spec (λ c. search needs) (λ c. search needs) returns returns-2)

@@ -18,55 +18,28 @@ here c =
     let f = c .before .before in
     set-at _ _ _ _ (sym (f .before .before .last-set .ensures) ∙ ap foundOf (f .found .given .1)) (c .if1 .left) (f .before .before .before .before .before .pre)
 
--- src/search.rt:81:9
-last-set-requires : tie.Need-last-set-requires
-last-set-requires c κs = search needs
-
--- src/search.rt:82:19
-enum-known-found : tie.Need-enum-known-found
-enum-known-found c = search needs
-
--- src/search.rt:83:9
 enum-told : tie.Need-enum-told
 enum-told c = search needs
 
--- src/search.rt:83:9
 returns : tie.Need-returns
 returns c = sym (ap (valueAt _ _) (sym (c .before .before .last-set .ensures) ∙ ap foundOf (c .enum-told .given .1)))
 
--- src/search.rt:86:9
 returns-2 : tie.Need-returns-2
 returns-2 c =
     let p = c .before .before in
     sym (ap (valueAt _ _) (sym (p .before .before .last-set .ensures) ∙ ap foundOf (p .found .given .1) ∙ ap found (c .if1 .taken)))
 
--- src/search.rt:88:17
-sub-w : tie.Need-sub-w
-sub-w c = search needs
-
--- src/search.rt:88:13
 mul-w : tie.Need-mul-w
 mul-w c = omega (arith, here c)
 
--- src/search.rt:88:13
 shared-slice-read-w : tie.Need-shared-slice-read-w
 shared-slice-read-w c = omega (arith, here (c .before))
 
--- src/search.rt:90:42
-cast-constant-value : tie.Need-cast-constant-value
-cast-constant-value c = search needs
-
--- src/search.rt:90:9
-constant-value-requires : tie.Need-constant-value-requires
-constant-value-requires c κs = search needs
-
--- src/search.rt:90:9
 returns-3 : tie.Need-returns-3
 returns-3 c =
     let e = c .before .before .before in
     c .constant-value .ensures ∙ sym (value-constant _ (here e) (c .before .if2 .taken))
 
--- src/search.rt:93:9
 returns-4 : tie.Need-returns-4
 returns-4 c =
     let e = c .before .before .before in
@@ -76,34 +49,21 @@ returns-4 c =
     (λ w. sym (value-no-len _ (here e) k (w .0 .left) (w .1 .taken)))
     (c .if3 .came)
 
--- src/search.rt:95:21
-sub-array : tie.Need-sub-array
-sub-array c = search needs
-
--- src/search.rt:95:17
 mul-array : tie.Need-mul-array
 mul-array c = omega (arith, here (c .before .before .before .before))
 
--- src/search.rt:95:17
 shared-slice-read-array : tie.Need-shared-slice-read-array
 shared-slice-read-array c = omega (arith, here (c .before .before .before .before .before))
 
--- src/search.rt:97:9
 returns-5 : tie.Need-returns-5
 returns-5 c =
     let f = c .before .before .before in
     let e = f .before .before .before in
     sym (value-no-get _ (here e) (f .before .if2 .left) (f .if3 .left) (c .if5 .taken))
 
--- src/search.rt:99:37
-sub-trace-literal-array-length : tie.Need-sub-trace-literal-array-length
-sub-trace-literal-array-length c = search needs
-
--- src/search.rt:99:5
 trace-literal-array-length-requires : tie.Need-trace-literal-array-length-requires
 trace-literal-array-length-requires c κs = omega (arith, here (c .before .before .before .before .before .before))
 
--- src/search.rt:77:1
 returns-6 : tie.Need-returns-6
 returns-6 c =
     let f = c .before .before .before .before in
@@ -114,23 +74,6 @@ returns-6 c =
 pub trace-const-set-local-spec : {M : Type 1} → statement M
 trace-const-set-local-spec =
     tie.close
-    (tie.spec
-    last-set-requires
-    enum-known-found
-    enum-told
-    returns
-    returns-2
-    sub-w
-    mul-w
-    shared-slice-read-w
-    cast-constant-value
-    constant-value-requires
-    returns-3
-    returns-4
-    sub-array
-    mul-array
-    shared-slice-read-array
-    returns-5
-    sub-trace-literal-array-length
-    trace-literal-array-length-requires
-    returns-6)
+    (tie.spec (λ c κs. search needs) (λ c. search needs) enum-told returns returns-2 (λ c. search needs) mul-w shared-slice-read-w
+    (λ c. search needs) (λ c κs. search needs) returns-3 returns-4 (λ c. search needs) mul-array shared-slice-read-array returns-5
+    (λ c. search needs) trace-literal-array-length-requires returns-6)

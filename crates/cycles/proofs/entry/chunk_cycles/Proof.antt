@@ -14,45 +14,21 @@ row-is : (c : tie.After-known-told) → let r = c .before .before .before in
     ok (rangeIs (c .before .row .given .0 .0)) ≡ rangeRow (r .before .before .before .args .p .mode) (r .before .ops-of .result .now)
 row-is c = sym (ap rowResult (c .before .row .given .1)) ∙ c .before .before .before .chunk-row .ensures
 
--- src/entry.rt:51:9
-ops-of-requires : tie.Need-ops-of-requires
-ops-of-requires c κs = search needs
-
--- src/entry.rt:52:9
 chunk-row-requires : tie.Need-chunk-row-requires
 chunk-row-requires c κs = let f = c .before .before .pre in ops-short (f .parts) (f .short) (c .ops-of .ensures)
 
--- src/entry.rt:54:23
-enum-known-row : tie.Need-enum-known-row
-enum-known-row c = search needs
-
--- src/entry.rt:55:30
-enum-known-row-2 : tie.Need-enum-known-row-2
-enum-known-row-2 c = search needs
-
--- src/entry.rt:56:13
 returns : tie.Need-returns
 returns c k parts =
     let r = c .before .before .before in
     let o = r .before in
     row-told (o .before .before .pre .short) (o .ops-of .ensures) k parts _ _ (sym (ap rowResult (c .before .row2 .given .1)) ∙ r .chunk-row .ensures)
 
--- src/entry.rt:60:9
-constants-of-requires : tie.Need-constants-of-requires
-constants-of-requires c κs = search needs
-
--- src/entry.rt:62:9
-extras-of-requires : tie.Need-extras-of-requires
-extras-of-requires c κs = search needs
-
--- src/entry.rt:59:5
 wcet-region-requires : tie.Need-wcet-region-requires
 wcet-region-requires c κs =
     let o = c .before .before .before .before .before .before in
     let f = o .before .before .pre in
-    row-fits (f .parts) (f .short) (o .ops-of .ensures) (row-is (c .before .before)) _ _
+    row-fits (f .parts) (f .short) (o .ops-of .ensures) (row-is (c .before .before))
 
--- src/entry.rt:47:1
 returns-2 : tie.Need-returns-2
 returns-2 c k parts =
     let e = c .before in
@@ -63,13 +39,5 @@ returns-2 c k parts =
 pub chunk-cycles-spec : {M : Type 1} → statement M
 chunk-cycles-spec =
     tie.close
-    (tie.spec
-    ops-of-requires
-    chunk-row-requires
-    enum-known-row
-    enum-known-row-2
-    returns
-    constants-of-requires
-    extras-of-requires
-    wcet-region-requires
-    returns-2)
+    (tie.spec (λ c κs. search needs) chunk-row-requires (λ c. search needs) (λ c. search needs) returns (λ c κs. search needs) (λ c κs. search needs)
+    wcet-region-requires returns-2)

@@ -13,44 +13,20 @@ use Rattle.cycles.proofs.entry.cycle_walk.Tie as tie
 there : (c : tie.After-known-told2) → let a = c .before .before .before .before .before .args in Chunked (a .words .now) (a .c) (c .before .found2 .given .0 .0)
 there c = lookup-found _ _ _ (sym (ap lookupOutcome (c .before .found2 .given .1)) ∙ c .before .before .before .find-chunk .ensures)
 
--- src/entry.rt:72:9
-find-chunk-requires : tie.Need-find-chunk-requires
-find-chunk-requires c κs = search needs
-
--- src/entry.rt:75:13
-enum-known-found : tie.Need-enum-known-found
-enum-known-found c = search needs
-
--- src/entry.rt:79:13
 returns : tie.Need-returns
 returns c =
     let a = c .before .before .before .before .before .args in
     lookup-told (a .words .now) (a .c) _ _ _ (sym (ap lookupOutcome (c .before .found .given .1)) ∙ c .before .before .before .find-chunk .ensures)
 
--- src/entry.rt:85:20
-enum-known-found-2 : tie.Need-enum-known-found-2
-enum-known-found-2 c = search needs
-
--- src/entry.rt:87:9
 chunk-cycles-requires : tie.Need-chunk-cycles-requires
 chunk-cycles-requires c κs = let h = there c in record { chunk = h .chunk; parts = h .parts; fits = h .fits; short = h .short }
 
--- src/entry.rt:89:20
-enum-known-walk : tie.Need-enum-known-walk
-enum-known-walk c = search needs
-
--- src/entry.rt:93:25
-enum-known-walk-2 : tie.Need-enum-known-walk-2
-enum-known-walk-2 c = search needs
-
--- src/entry.rt:69:1
 returns-2 : tie.Need-returns-2
 returns-2 c =
     let w = c .before .before .before in
     let h = there (w .before) in
     chunk-told _ _ h (sym (ap walkResult (c .before .walk .given .1)) ∙ w .chunk-cycles .ensures (h .chunk) (h .parts))
 
--- src/entry.rt:69:1
 returns-3 : tie.Need-returns-3
 returns-3 c =
     let w = c .before .before .before in
@@ -60,13 +36,5 @@ returns-3 c =
 pub cycle-walk-spec : {M : Type 1} → statement M
 cycle-walk-spec =
     tie.close
-    (tie.spec
-    find-chunk-requires
-    enum-known-found
-    returns
-    enum-known-found-2
-    chunk-cycles-requires
-    enum-known-walk
-    enum-known-walk-2
-    returns-2
-    returns-3)
+    (tie.spec (λ c κs. search needs) (λ c. search needs) returns (λ c. search needs) chunk-cycles-requires (λ c. search needs) (λ c. search needs)
+    returns-2 returns-3)

@@ -4,14 +4,16 @@ use Prim.Native.Nat.{ℕ, _<_, _+_, _-_, _*_}
 use mathlib.Core.Path.{refl}
 use native.Mathlib.Omega.{arith}
 use borrow.Author.Needs.{needs}
+use Rattle.rows.specs.Opens.{StepFits}
+use Rattle.rows.proofs.FitLaws.{if-within, if-arm, else-within, then-arm, else-arm, loop-within, loop-body}
 use Rattle.cycles.specs.Answers.{breaksOf, chunkOf}
+use Rattle.cycles.specs.Steps.{StepMeans}
 use Rattle.cycles.proofs.CycleLaws.{part-some}
 use Rattle.cycles.proofs.StepLaws.{Rest, rest-fits, rest-end, rest-forward, rest-goes, rest-ends, rest-refused}
-use Rattle.cycles.proofs.StepLaws.{if-within, if-arm, if-refused, if-open, if-goes}
-use Rattle.cycles.proofs.StepLaws.{else-within, then-arm, else-arm, else-refused, else-refused-second, else-joins}
-use Rattle.cycles.proofs.StepLaws.{loop-within, loop-body, loop-refused, loop-once, loop-passes}
-use Rattle.cycles.proofs.StepLaws.{if-reach, loop-reach, if-fits, else-fits, loop-fits}
-use Rattle.cycles.proofs.StepLaws.{Charged, step-open, step-charged, step-if, step-else, step-loop, step-passed}
+use Rattle.cycles.proofs.StepLaws.{if-refused, if-open, if-goes}
+use Rattle.cycles.proofs.StepLaws.{else-refused, else-refused-second, else-joins}
+use Rattle.cycles.proofs.StepLaws.{loop-refused, loop-once, loop-passes}
+use Rattle.cycles.proofs.StepLaws.{Charged, step-open, step-charged, step-if, step-else, step-loop, step-ends, step-break, step-break-if, step-plain}
 use borrow.Fn.Kinds.{In, Out}
 use borrow.Fn.PlainCycle.{Measures, is, falls, and}
 use Rattle.cycles.proofs.region.wcet_else.Reads as wcet-else
@@ -36,7 +38,9 @@ use Rattle.cycles.proofs.charge.op_wcet_cycles.Reads as op-wcet-cycles-
 use Rattle.cycles.proofs.region.all_passes.Reads as all-passes-reads
 use Rattle.cycles.proofs.region.join_arms.Reads as join-arms-reads
 use Rattle.cycles.proofs.region.one_pass.Reads as one-pass-reads
-use Rattle.cycles.proofs.region.pass_op.Reads as pass-op-reads
+use Rattle.cycles.proofs.region.ended.Reads as ended-reads
+use Rattle.cycles.proofs.sums.note_break.Reads as note-break-reads
+use Rattle.rows.proofs.block.block_at.Reads as block-at-reads
 use Rattle.cycles.proofs.sums.cap_add.Reads as cap-add-reads
 use Rattle.cycles.proofs.region.+wcet_else+wcet_if+wcet_loop+wcet_part+wcet_region_at+wcet_step.{
   statement,
@@ -49,10 +53,10 @@ abbrev μ-wcet-else : Measures 3 wcet-else-kinds.ps ℕ
 μ-wcet-else κs a = 4 * a .1 .1 .1 .1 .1 .1 .0 + 1
 
 abbrev μ-wcet-if : Measures 3 wcet-if-kinds.ps ℕ
-μ-wcet-if κs a = 4 * a .1 .1 .1 .1 .1 .1 .0 + 1
+μ-wcet-if κs a = 4 * a .1 .1 .1 .1 .1 .0 + 1
 
 abbrev μ-wcet-loop : Measures 3 wcet-loop-kinds.ps ℕ
-μ-wcet-loop κs a = 4 * a .1 .1 .1 .1 .1 .1 .0 + 1
+μ-wcet-loop κs a = 4 * a .1 .1 .1 .1 .1 .0 + 1
 
 abbrev μ-wcet-part : Measures 3 wcet-part-kinds.ps ℕ
 μ-wcet-part κs a = 4 * a .1 .1 .1 .1 .1 .0
@@ -61,7 +65,7 @@ abbrev μ-wcet-region-at : Measures 3 wcet-region-at-kinds.ps ℕ
 μ-wcet-region-at κs a = 4 * a .1 .1 .1 .1 .1 .0 + 3
 
 abbrev μ-wcet-step : Measures 3 wcet-step-kinds.ps ℕ
-μ-wcet-step κs a = 4 * a .1 .1 .1 .1 .1 .0 + 2
+μ-wcet-step κs a = 4 * a .1 .1 .1 .1 .0 + 2
 
 abbrev wcet-else-at : ℕ → In 3 wcet-else-kinds.ps
 wcet-else-at t = and 3 wcet-else-kinds.ps (is 3 wcet-else-kinds.ps μ-wcet-else t) wcet-else.Pre
@@ -112,86 +116,43 @@ wcet-else-calls t = (wcet-part-below t, wcet-part.Post, join-arms-reads.Asked, j
 abbrev wcet-else-need : (wcet-else-lts.Claims → In 3 wcet-else-kinds.ps → Out 3 wcet-else-kinds.ps wcet-else-kinds.r → Type 0) → Type 0
 wcet-else-need N = (t : ℕ) → N (wcet-else-calls t) (wcet-else-at t) wcet-else.Post
 
--- src/region.rt:211:14
-wcet-else-mul-f : wcet-else-need wcet-else-lts.Need-mul-f
-wcet-else-mul-f t c = omega arith
-
--- src/region.rt:211:14
-wcet-else-shared-slice-read-f : wcet-else-need wcet-else-lts.Need-shared-slice-read-f
-wcet-else-shared-slice-read-f t c = omega (arith, else-within (c .before .before .before .before .pre .1))
-
--- src/region.rt:211:13
-wcet-else-cast-f : wcet-else-need wcet-else-lts.Need-cast-f
-wcet-else-cast-f t c = omega arith
-
--- src/region.rt:212:51
 wcet-else-add-wcet-part : wcet-else-need wcet-else-lts.Need-add-wcet-part
-wcet-else-add-wcet-part t c = omega arith
+wcet-else-add-wcet-part t c = omega (arith, else-within (c .before .before .before .pre .1 .1))
 
--- src/region.rt:212:9
 wcet-else-wcet-part-requires : wcet-else-need wcet-else-lts.Need-wcet-part-requires
-wcet-else-wcet-part-requires t c κs = (omega arith, then-arm (c .before .before .before .before .pre .1))
+wcet-else-wcet-part-requires t c κs = (omega arith, then-arm (c .before .before .before .pre .1 .1))
 
--- src/region.rt:214:20
-wcet-else-enum-known-first : wcet-else-need wcet-else-lts.Need-enum-known-first
-wcet-else-enum-known-first t c = search needs
-
--- src/region.rt:215:25
-wcet-else-enum-known-first-2 : wcet-else-need wcet-else-lts.Need-enum-known-first-2
-wcet-else-enum-known-first-2 t c = search needs
-
--- src/region.rt:216:13
 wcet-else-returns : wcet-else-need wcet-else-lts.Need-returns
-wcet-else-returns t c =
+wcet-else-returns t c to h =
     let f = c .before in
     let w = f .before .before in
-    let s = w .before .before .before .before .before in
-    else-refused (s .pre .1) (s .args .left) (s .args .cost) (s .args .breaks) _ (w .wcet-part .ensures) (f .first2 .given .1)
+    let a = w .before .before .before .before .args in
+    else-refused h (a .constants .now) (a .extras .now) (a .left) (a .cost) (a .breaks) _ (w .wcet-part .ensures) (f .first2 .given .1)
 
--- src/region.rt:220:52
-wcet-else-add-wcet-part-2 : wcet-else-need wcet-else-lts.Need-add-wcet-part-2
-wcet-else-add-wcet-part-2 t c = omega arith
-
--- src/region.rt:220:9
 wcet-else-wcet-part-requires-2 : wcet-else-need wcet-else-lts.Need-wcet-part-requires-2
-wcet-else-wcet-part-requires-2 t c κs =
-    let w = c .before .before .before .before in
-    (omega arith, else-arm (w .before .before .before .before .before .pre .1))
+wcet-else-wcet-part-requires-2 t c κs = (omega arith, else-arm (c .before .before .before .before .before .before .before .before .pre .1 .1))
 
--- src/region.rt:222:20
-wcet-else-enum-known-second : wcet-else-need wcet-else-lts.Need-enum-known-second
-wcet-else-enum-known-second t c = search needs
-
--- src/region.rt:223:25
-wcet-else-enum-known-second-2 : wcet-else-need wcet-else-lts.Need-enum-known-second-2
-wcet-else-enum-known-second-2 t c = search needs
-
--- src/region.rt:224:13
 wcet-else-returns-2 : wcet-else-need wcet-else-lts.Need-returns-2
-wcet-else-returns-2 t c =
+wcet-else-returns-2 t c to h =
     let f = c .before in
     let v = f .before .before in
     let g = v .before .before .before in
     let w = g .before .before in
-    let s = w .before .before .before .before .before in
-    else-refused-second (s .pre .1) (s .args .left) (s .args .cost) (s .args .breaks) _ (w .wcet-part .ensures) _ (g .first .given .1)
+    let a = w .before .before .before .before .args in
+    else-refused-second h (a .constants .now) (a .extras .now) (a .left) (a .cost) (a .breaks) _ (w .wcet-part .ensures) _ (g .first .given .1)
     _ (v .wcet-part2 .ensures) (f .second2 .given .1)
 
--- src/region.rt:227:5
 wcet-else-join-arms-requires : wcet-else-need wcet-else-lts.Need-join-arms-requires
-wcet-else-join-arms-requires t c κs =
-    let w = c .before .before .before .before .before .before .before .before in
-    omega (arith, else-within (w .before .before .before .before .before .pre .1))
+wcet-else-join-arms-requires t c κs = omega (arith, else-within (c .before .before .before .before .before .before .before .before .before .before .before .before .pre .1 .1))
 
--- src/region.rt:197:1
 wcet-else-returns-3 : wcet-else-need wcet-else-lts.Need-returns-3
-wcet-else-returns-3 t c =
+wcet-else-returns-3 t c to h =
     let f = c .before .before in
     let v = f .before .before in
     let g = v .before .before .before in
     let w = g .before .before in
-    let s = w .before .before .before .before .before in
-    else-joins (s .pre .1) (s .args .left) (s .args .cost) (s .args .breaks) _ (w .wcet-part .ensures) _ (g .first .given .1)
+    let a = w .before .before .before .before .args in
+    else-joins h (a .constants .now) (a .extras .now) (a .left) (a .cost) (a .breaks) _ (w .wcet-part .ensures) _ (g .first .given .1)
     _ (v .wcet-part2 .ensures) _ (f .second .given .1) _ (c .join-arms .ensures)
 
 -- what the callees of `wcet-if` ask and give, and what a need of it is
@@ -201,73 +162,42 @@ wcet-if-calls t = (wcet-part-below t, wcet-part.Post, op-wcet-cycles-reads.Asked
 abbrev wcet-if-need : (wcet-if-lts.Claims → In 3 wcet-if-kinds.ps → Out 3 wcet-if-kinds.ps wcet-if-kinds.r → Type 0) → Type 0
 wcet-if-need N = (t : ℕ) → N (wcet-if-calls t) (wcet-if-at t) wcet-if.Post
 
--- src/region.rt:178:50
 wcet-if-add-wcet-part : wcet-if-need wcet-if-lts.Need-add-wcet-part
-wcet-if-add-wcet-part t c = omega arith
+wcet-if-add-wcet-part t c = omega (arith, if-within (c .before .before .before .pre .1 .1))
 
--- src/region.rt:178:9
 wcet-if-wcet-part-requires : wcet-if-need wcet-if-lts.Need-wcet-part-requires
-wcet-if-wcet-part-requires t c κs = (omega arith, if-arm (c .before .before .before .pre .1))
+wcet-if-wcet-part-requires t c κs = (omega arith, if-arm (c .before .before .before .pre .1 .1))
 
--- src/region.rt:180:20
-wcet-if-enum-known-part : wcet-if-need wcet-if-lts.Need-enum-known-part
-wcet-if-enum-known-part t c = search needs
-
--- src/region.rt:181:25
-wcet-if-enum-known-part-2 : wcet-if-need wcet-if-lts.Need-enum-known-part-2
-wcet-if-enum-known-part-2 t c = search needs
-
--- src/region.rt:182:13
 wcet-if-returns : wcet-if-need wcet-if-lts.Need-returns
-wcet-if-returns t c =
+wcet-if-returns t c to h =
     let f = c .before in
     let w = f .before .before in
-    let s = w .before .before .before .before in
-    if-refused (s .pre .1) (s .args .left) (s .args .cost) (s .args .breaks) _ (w .wcet-part .ensures) (f .part2 .given .1)
+    let a = w .before .before .before .before .args in
+    if-refused h (a .constants .now) (a .extras .now) (a .left) (a .cost) (a .breaks) _ (w .wcet-part .ensures) (f .part2 .given .1)
 
--- src/region.rt:185:9
 wcet-if-op-wcet-cycles-requires : wcet-if-need wcet-if-lts.Need-op-wcet-cycles-requires
-wcet-if-op-wcet-cycles-requires t c κs = omega (arith, if-within (c .before .before .before .before .before .before .before .pre .1))
+wcet-if-op-wcet-cycles-requires t c κs = omega (arith, if-within (c .before .before .before .before .before .before .before .pre .1 .1))
 
--- src/region.rt:186:20
-wcet-if-enum-known-charge : wcet-if-need wcet-if-lts.Need-enum-known-charge
-wcet-if-enum-known-charge t c = search needs
-
--- src/region.rt:187:9
-wcet-if-enum-told : wcet-if-need wcet-if-lts.Need-enum-told
-wcet-if-enum-told t c = search needs
-
--- src/region.rt:187:9
 wcet-if-returns-2 : wcet-if-need wcet-if-lts.Need-returns-2
-wcet-if-returns-2 t c =
+wcet-if-returns-2 t c to h =
     let o = c .before .before in
     let f = o .before .before in
     let w = f .before .before in
-    let s = w .before .before .before .before in
-    if-open (s .pre .1) (s .args .left) (s .args .cost) (s .args .breaks) _ (w .wcet-part .ensures) _ (f .part .given .1)
+    let a = w .before .before .before .before .args in
+    if-open h (a .constants .now) (a .extras .now) (a .left) (a .cost) (a .breaks) _ (w .wcet-part .ensures) _ (f .part .given .1)
     _ (o .op-wcet-cycles .ensures) (c .enum-told .given .1)
 
--- src/region.rt:193:16
-wcet-if-add-t18 : wcet-if-need wcet-if-lts.Need-add-t18
-wcet-if-add-t18 t c = omega arith
+wcet-if-add-t : wcet-if-need wcet-if-lts.Need-add-t17
+wcet-if-add-t t c = omega (arith, if-within (c .before .before .before .before .before .before .before .before .before .before .before .before .pre .1 .1))
 
--- src/region.rt:193:31
-wcet-if-cap-add-requires : wcet-if-need wcet-if-lts.Need-cap-add-requires
-wcet-if-cap-add-requires t c κs = tt
-
--- src/region.rt:193:23
-wcet-if-cap-add-requires-2 : wcet-if-need wcet-if-lts.Need-cap-add-requires-2
-wcet-if-cap-add-requires-2 t c κs = tt
-
--- src/region.rt:164:1
 wcet-if-returns-3 : wcet-if-need wcet-if-lts.Need-returns-3
-wcet-if-returns-3 t c =
+wcet-if-returns-3 t c to h =
     let k = c .before .before .before .before in
     let o = k .before .before in
     let f = o .before .before in
     let w = f .before .before in
-    let s = w .before .before .before .before in
-    if-goes (s .pre .1) (s .args .left) (s .args .cost) (s .args .breaks) _ (w .wcet-part .ensures) _ (f .part .given .1)
+    let a = w .before .before .before .before .args in
+    if-goes h (a .constants .now) (a .extras .now) (a .left) (a .cost) (a .breaks) _ (w .wcet-part .ensures) _ (f .part .given .1)
     _ (o .op-wcet-cycles .ensures) (k .charge .given .1) (c .before .cap-add .ensures) (c .cap-add2 .ensures)
 
 -- what the callees of `wcet-loop` ask and give, and what a need of it is
@@ -277,59 +207,40 @@ wcet-loop-calls t = (wcet-part-below t, wcet-part.Post, one-pass-reads.Asked, on
 abbrev wcet-loop-need : (wcet-loop-lts.Claims → In 3 wcet-loop-kinds.ps → Out 3 wcet-loop-kinds.ps wcet-loop-kinds.r → Type 0) → Type 0
 wcet-loop-need N = (t : ℕ) → N (wcet-loop-calls t) (wcet-loop-at t) wcet-loop.Post
 
--- src/region.rt:290:50
 wcet-loop-add-wcet-part : wcet-loop-need wcet-loop-lts.Need-add-wcet-part
-wcet-loop-add-wcet-part t c = omega arith
+wcet-loop-add-wcet-part t c = omega (arith, loop-within (c .before .before .before .pre .1 .1))
 
--- src/region.rt:290:9
 wcet-loop-wcet-part-requires : wcet-loop-need wcet-loop-lts.Need-wcet-part-requires
-wcet-loop-wcet-part-requires t c κs = (omega arith, loop-body (c .before .before .before .pre .1))
+wcet-loop-wcet-part-requires t c κs = (omega arith, loop-body (c .before .before .before .pre .1 .1))
 
--- src/region.rt:292:20
-wcet-loop-enum-known-part : wcet-loop-need wcet-loop-lts.Need-enum-known-part
-wcet-loop-enum-known-part t c = search needs
-
--- src/region.rt:293:25
-wcet-loop-enum-known-part-2 : wcet-loop-need wcet-loop-lts.Need-enum-known-part-2
-wcet-loop-enum-known-part-2 t c = search needs
-
--- src/region.rt:294:13
 wcet-loop-returns : wcet-loop-need wcet-loop-lts.Need-returns
-wcet-loop-returns t c =
+wcet-loop-returns t c to h =
     let f = c .before in
     let w = f .before .before in
-    let s = w .before .before .before .before in
-    loop-refused (s .pre .1) (s .args .left) (s .args .cost) (s .args .breaks) _ (w .wcet-part .ensures) (f .part2 .given .1)
+    let a = w .before .before .before .before .args in
+    loop-refused h (a .constants .now) (a .extras .now) (a .left) (a .cost) (a .breaks) _ (w .wcet-part .ensures) (f .part2 .given .1)
 
--- src/region.rt:298:9
 wcet-loop-one-pass-requires : wcet-loop-need wcet-loop-lts.Need-one-pass-requires
-wcet-loop-one-pass-requires t c κs =
-    let w = c .before .before .before .before in
-    omega (arith, loop-within (w .before .before .before .before .pre .1))
+wcet-loop-one-pass-requires t c κs = omega (arith, loop-within (c .before .before .before .before .before .before .before .before .pre .1 .1))
 
--- src/region.rt:298:9
 wcet-loop-returns-2 : wcet-loop-need wcet-loop-lts.Need-returns-2
-wcet-loop-returns-2 t c =
+wcet-loop-returns-2 t c to h =
     let d = c .before in
     let f = d .before .before in
     let w = f .before .before in
-    let s = w .before .before .before .before in
-    loop-once (s .pre .1) (s .args .left) (s .args .cost) (s .args .breaks) _ (w .wcet-part .ensures) _ (f .part .given .1) (d .if1 .taken) _ (c .one-pass .ensures)
+    let a = w .before .before .before .before .args in
+    loop-once h (a .constants .now) (a .extras .now) (a .left) (a .cost) (a .breaks) _ (w .wcet-part .ensures) _ (f .part .given .1) (d .if1 .taken) _ (c .one-pass .ensures)
 
--- src/region.rt:300:5
 wcet-loop-all-passes-requires : wcet-loop-need wcet-loop-lts.Need-all-passes-requires
-wcet-loop-all-passes-requires t c κs =
-    let w = c .before .before .before .before in
-    omega (arith, loop-within (w .before .before .before .before .pre .1))
+wcet-loop-all-passes-requires t c κs = omega (arith, loop-within (c .before .before .before .before .before .before .before .before .pre .1 .1))
 
--- src/region.rt:272:1
 wcet-loop-returns-3 : wcet-loop-need wcet-loop-lts.Need-returns-3
-wcet-loop-returns-3 t c =
+wcet-loop-returns-3 t c to h =
     let d = c .before in
     let f = d .before .before in
     let w = f .before .before in
-    let s = w .before .before .before .before in
-    loop-passes (s .pre .1) (s .args .left) (s .args .cost) (s .args .breaks) _ (w .wcet-part .ensures) _ (f .part .given .1) (d .if1 .left) _ (c .all-passes .ensures)
+    let a = w .before .before .before .before .args in
+    loop-passes h (a .constants .now) (a .extras .now) (a .left) (a .cost) (a .breaks) _ (w .wcet-part .ensures) _ (f .part .given .1) (d .if1 .left) _ (c .all-passes .ensures)
 
 -- what the callees of `wcet-part` ask and give, and what a need of it is
 abbrev wcet-part-calls : ℕ → wcet-part-lts.Claims
@@ -338,19 +249,12 @@ wcet-part-calls t = (wcet-region-at-below t, wcet-region-at.Post)
 abbrev wcet-part-need : (wcet-part-lts.Claims → In 3 wcet-part-kinds.ps → Out 3 wcet-part-kinds.ps wcet-part-kinds.r → Type 0) → Type 0
 wcet-part-need N = (t : ℕ) → N (wcet-part-calls t) (wcet-part-at t) wcet-part.Post
 
--- src/region.rt:155:9
 wcet-part-returns : wcet-part-need wcet-part-lts.Need-returns
 wcet-part-returns t c = rw (c .if1 .taken)
 
--- src/region.rt:160:54
-wcet-part-sub-wcet-region-at : wcet-part-need wcet-part-lts.Need-sub-wcet-region-at
-wcet-part-sub-wcet-region-at t c = omega arith
-
--- src/region.rt:160:5
 wcet-part-wcet-region-at-requires : wcet-part-need wcet-part-lts.Need-wcet-region-at-requires
 wcet-part-wcet-region-at-requires t c κs = (omega arith, c .before .before .before .before .pre .1)
 
--- src/region.rt:142:1
 wcet-part-returns-2 : wcet-part-need wcet-part-lts.Need-returns-2
 wcet-part-returns-2 t c =
     let d = c .before in
@@ -371,206 +275,172 @@ wcet-region-at-calls t = (wcet-step-below t, wcet-step.Post)
 abbrev wcet-region-at-need : (wcet-region-at-lts.Claims → In 3 wcet-region-at-kinds.ps → Out 3 wcet-region-at-kinds.ps wcet-region-at-kinds.r → wcet-region-at-lts.InvT-loop → wcet-region-at-lts.MeasureT-loop → Type 0) → Type 0
 wcet-region-at-need N = (t : ℕ) → N (wcet-region-at-calls t) (wcet-region-at-at t) wcet-region-at.Post wcet-region-at-Inv-loop wcet-region-at-μ-loop
 
--- src/region.rt:64:5
 wcet-region-at-loop-holds : wcet-region-at-need wcet-region-at-lts.Need-loop-holds
 wcet-region-at-loop-holds t c = record { row = c .before .before .before .pre .1 .has-row; same = refl }
 
--- src/region.rt:65:13
 wcet-region-at-wcet-step-requires : wcet-region-at-need wcet-region-at-lts.Need-wcet-step-requires
-wcet-region-at-wcet-step-requires t c κs = (omega arith, rest-fits (c .before .loop .inv) (c .before .before .before .before .before .pre .1) (c .loop-test .taken))
+wcet-region-at-wcet-step-requires t c κs = (omega arith, (_, rest-fits (c .before .loop .inv) (c .before .before .before .before .before .pre .1) (c .loop-test .taken)))
 
--- src/region.rt:67:24
-wcet-region-at-enum-known-step : wcet-region-at-need wcet-region-at-lts.Need-enum-known-step
-wcet-region-at-enum-known-step t c = search needs
+-- what the step taken means in this row
+wcet-region-at-means : (t : ℕ) (c : wcet-region-at-lts.After-wcet-step (wcet-region-at-calls t) (wcet-region-at-at t) wcet-region-at.Post wcet-region-at-Inv-loop wcet-region-at-μ-loop)
+    → let l = c .before .before .loop in
+    let a = c .before .before .before .before .before .before .args in
+    StepMeans (a .constants .now) (a .ops .now) (a .extras .now) (l .i) (a .to) (a .left) (l .cycles) (l .met) (c .wcet-step .result)
+wcet-region-at-means t c =
+    let l = c .before in
+    c .wcet-step .ensures _ (rest-fits (l .before .loop .inv) (l .before .before .before .before .before .pre .1) (l .loop-test .taken))
 
--- src/region.rt:64:5
 wcet-region-at-loop-less : wcet-region-at-need wcet-region-at-lts.Need-loop-less
 wcet-region-at-loop-less t c =
     let s = c .before in
     let w = s .before .before in
-    omega (arith, rest-forward (w .before .before .loop .inv) (w .wcet-step .result) (w .wcet-step .ensures) (s .step .given .1))
+    omega (arith, rest-forward (w .before .before .loop .inv) (w .wcet-step .result) (wcet-region-at-means t w) (s .step .given .1))
 
--- src/region.rt:64:5
 wcet-region-at-loop-again : wcet-region-at-need wcet-region-at-lts.Need-loop-again
 wcet-region-at-loop-again t c =
     let s = c .before in
     let w = s .before .before in
-    rest-goes (w .before .before .loop .inv) (w .wcet-step .result) (w .wcet-step .ensures) (s .step .given .1)
+    rest-goes (w .before .before .loop .inv) (w .wcet-step .result) (wcet-region-at-means t w) (s .step .given .1)
 
--- src/region.rt:72:24
-wcet-region-at-enum-known-step-2 : wcet-region-at-need wcet-region-at-lts.Need-enum-known-step-2
-wcet-region-at-enum-known-step-2 t c = search needs
-
--- src/region.rt:73:17
 wcet-region-at-returns : wcet-region-at-need wcet-region-at-lts.Need-returns
 wcet-region-at-returns t c =
     let s = c .before in
     let w = s .before .before in
-    rest-ends (w .before .before .loop .inv) (w .wcet-step .result) (w .wcet-step .ensures) (s .step2 .given .1)
+    rest-ends (w .before .before .loop .inv) (w .wcet-step .result) (wcet-region-at-means t w) (s .step2 .given .1)
 
--- src/region.rt:75:29
-wcet-region-at-enum-known-step-3 : wcet-region-at-need wcet-region-at-lts.Need-enum-known-step-3
-wcet-region-at-enum-known-step-3 t c = search needs
-
--- src/region.rt:76:17
 wcet-region-at-returns-2 : wcet-region-at-need wcet-region-at-lts.Need-returns-2
 wcet-region-at-returns-2 t c =
     let s = c .before in
     let w = s .before .before in
-    rest-refused (w .before .before .loop .inv) (w .wcet-step .result) (w .wcet-step .ensures) (s .step3 .given .1)
+    rest-refused (w .before .before .loop .inv) (w .wcet-step .result) (wcet-region-at-means t w) (s .step3 .given .1)
 
--- src/region.rt:49:1
 wcet-region-at-returns-3 : wcet-region-at-need wcet-region-at-lts.Need-returns-3
 wcet-region-at-returns-3 t c = rest-end (c .before .loop .inv) (c .loop-test .left)
 
 -- what the callees of `wcet-step` ask and give, and what a need of it is
 abbrev wcet-step-calls : ℕ → wcet-step-lts.Claims
-wcet-step-calls t = (op-wcet-cycles-reads.Asked, op-wcet-cycles-reads.Learnt, cap-add-reads.Asked, cap-add-reads.Learnt, wcet-else-below t, wcet-else.Post, wcet-if-below t, wcet-if.Post, wcet-loop-below t, wcet-loop.Post, pass-op-reads.Asked, pass-op-reads.Learnt)
+wcet-step-calls t = (op-wcet-cycles-reads.Asked, op-wcet-cycles-reads.Learnt, cap-add-reads.Asked, cap-add-reads.Learnt, block-at-reads.Asked, block-at-reads.Learnt, ended-reads.Asked, ended-reads.Learnt, note-break-reads.Asked, note-break-reads.Learnt, wcet-if-below t, wcet-if.Post, wcet-else-below t, wcet-else.Post, wcet-loop-below t, wcet-loop.Post)
 
 abbrev wcet-step-need : (wcet-step-lts.Claims → In 3 wcet-step-kinds.ps → Out 3 wcet-step-kinds.ps wcet-step-kinds.r → Type 0) → Type 0
 wcet-step-need N = (t : ℕ) → N (wcet-step-calls t) (wcet-step-at t) wcet-step.Post
 
--- src/region.rt:101:9
 wcet-step-op-wcet-cycles-requires : wcet-step-need wcet-step-lts.Need-op-wcet-cycles-requires
-wcet-step-op-wcet-cycles-requires t c κs = omega arith
+wcet-step-op-wcet-cycles-requires t c κs = let p = c .before .before .before .pre .1 .1 in omega (arith, p .here, p .row .within)
 
--- src/region.rt:102:20
-wcet-step-enum-known-charge : wcet-step-need wcet-step-lts.Need-enum-known-charge
-wcet-step-enum-known-charge t c = search needs
-
--- src/region.rt:103:9
-wcet-step-enum-told : wcet-step-need wcet-step-lts.Need-enum-told
-wcet-step-enum-told t c = search needs
-
--- src/region.rt:103:9
 wcet-step-returns : wcet-step-need wcet-step-lts.Need-returns
-wcet-step-returns t c =
+wcet-step-returns t c to h =
     let o = c .before .before in
-    let s = o .before .before .before .before in
-    step-open (s .pre .1) (s .args .left) (s .args .cycles) (s .args .breaks) _ (o .op-wcet-cycles .ensures) (c .enum-told .given .1)
+    let a = o .before .before .before .before .args in
+    step-open h (a .constants .now) (a .extras .now) (a .left) (a .cycles) (a .breaks) _ (o .op-wcet-cycles .ensures) (c .enum-told .given .1)
 
--- src/region.rt:108:9
-wcet-step-cap-add-requires : wcet-step-need wcet-step-lts.Need-cap-add-requires
-wcet-step-cap-add-requires t c κs = tt
-
--- the op at i, charged
+-- the op at i, charged, in a row that ends at `to`
 wcet-step-charged : (t : ℕ) (c : wcet-step-lts.After-cap-add (wcet-step-calls t) (wcet-step-at t) wcet-step.Post)
     → let a = c .before .before .before .before .before .before .before .before .args in
-    Charged (a .constants .now) (a .ops .now) (a .extras .now) (a .i) (a .to) (a .left) (a .cycles) (c .cap-add .result) (a .breaks)
-wcet-step-charged t c =
+    (to : ℕ) → StepFits (a .ops .now) (a .i) to
+    → Charged (a .constants .now) (a .ops .now) (a .extras .now) (a .i) to (a .left) (a .cycles) (c .cap-add .result) (a .breaks)
+wcet-step-charged t c to h =
     let k = c .before .before in
     let o = k .before .before in
-    let s = o .before .before .before .before in
-    step-charged (s .pre .1) (s .args .left) (s .args .cycles) (s .args .breaks) _ (o .op-wcet-cycles .ensures) (k .charge .given .1) (c .cap-add .ensures)
+    let a = o .before .before .before .before .args in
+    step-charged h (a .constants .now) (a .extras .now) (a .left) (a .cycles) (a .breaks) _ (o .op-wcet-cycles .ensures) (k .charge .given .1) (c .cap-add .ensures)
 
--- src/region.rt:109:13
-wcet-step-mul-w : wcet-step-need wcet-step-lts.Need-mul-w
-wcet-step-mul-w t c = omega arith
+wcet-step-block-at-requires : wcet-step-need wcet-step-lts.Need-block-at-requires
+wcet-step-block-at-requires t c κs = c .before .before .before .before .before .before .before .before .pre .1
 
--- src/region.rt:109:13
-wcet-step-shared-slice-read-w : wcet-step-need wcet-step-lts.Need-shared-slice-read-w
-wcet-step-shared-slice-read-w t c = omega arith
+wcet-step-add-plain : wcet-step-need wcet-step-lts.Need-add-t17
+wcet-step-add-plain t c = let p = c .before .before .before .before .before .before .before .before .before .before .before .pre .1 .1 in omega (arith, p .here, p .row .within, p .row .short)
 
--- src/region.rt:111:13
-wcet-step-cast-t : wcet-step-need wcet-step-lts.Need-cast-t
-wcet-step-cast-t t c = omega arith
+wcet-step-add-break-if : wcet-step-need wcet-step-lts.Need-add-t19
+wcet-step-add-break-if t c = let p = c .before .before .before .before .before .before .before .before .before .before .before .pre .1 .1 in omega (arith, p .here, p .row .within, p .row .short)
 
--- src/region.rt:113:16
-wcet-step-sub-if2 : wcet-step-need wcet-step-lts.Need-sub-if2
-wcet-step-sub-if2 t c = omega (arith, if-reach (wcet-step-charged t (c .before .before) .fits) (c .if1 .taken))
-
--- src/region.rt:113:12
-wcet-step-mul-if2 : wcet-step-need wcet-step-lts.Need-mul-if2
-wcet-step-mul-if2 t c = omega arith
-
--- src/region.rt:113:12
-wcet-step-shared-slice-read-if2 : wcet-step-need wcet-step-lts.Need-shared-slice-read-if2
-wcet-step-shared-slice-read-if2 t c = omega (arith, if-reach (wcet-step-charged t (c .before .before .before) .fits) (c .before .if1 .taken))
-
--- src/region.rt:114:57
-wcet-step-sub-wcet-else : wcet-step-need wcet-step-lts.Need-sub-wcet-else
-wcet-step-sub-wcet-else t c = omega (arith, if-reach (wcet-step-charged t (c .before .before .before .before) .fits) (c .before .before .if1 .taken))
-
--- src/region.rt:114:13
-wcet-step-wcet-else-requires : wcet-step-need wcet-step-lts.Need-wcet-else-requires
-wcet-step-wcet-else-requires t c κs =
-    let d = c .before .before in
-    (omega arith, else-fits (wcet-step-charged t (d .before .before) .fits) (d .if1 .taken) (c .if2 .taken))
-
--- src/region.rt:114:13
-wcet-step-returns-2 : wcet-step-need wcet-step-lts.Need-returns-2
-wcet-step-returns-2 t c =
-    let e = c .before in
-    let d = e .before .before in
-    step-else (wcet-step-charged t (d .before .before)) (c .wcet-else .result) (d .if1 .taken) (e .if2 .taken) (c .wcet-else .ensures)
-
--- src/region.rt:116:9
 wcet-step-wcet-if-requires : wcet-step-need wcet-step-lts.Need-wcet-if-requires
 wcet-step-wcet-if-requires t c κs =
-    let d = c .before .before in
-    (omega arith, if-fits (wcet-step-charged t (d .before .before) .fits) (d .if1 .taken) (c .if2 .left))
+    let f = c .before in
+    let k = f .before .before in
+    let p = k .before .before .before .before .before .before .before .before .before .pre in
+    (omega (arith, p .0), (p .1 .0, record { row = p .1 .1 .row; at = rw (f .block .given .1) at (k .block-at .ensures _ (p .1 .1)) }))
 
--- src/region.rt:116:9
-wcet-step-returns-3 : wcet-step-need wcet-step-lts.Need-returns-3
-wcet-step-returns-3 t c =
-    let e = c .before in
-    let d = e .before .before in
-    step-if (wcet-step-charged t (d .before .before)) (c .wcet-if .result) (d .if1 .taken) (e .if2 .left) (c .wcet-if .ensures)
+wcet-step-wcet-else-requires : wcet-step-need wcet-step-lts.Need-wcet-else-requires
+wcet-step-wcet-else-requires t c κs =
+    let f = c .before in
+    let k = f .before .before in
+    let p = k .before .before .before .before .before .before .before .before .before .pre in
+    (omega (arith, p .0), (p .1 .0, record { row = p .1 .1 .row; at = rw (f .block2 .given .1) at (k .block-at .ensures _ (p .1 .1)) }))
 
--- src/region.rt:119:53
-wcet-step-sub-wcet-loop : wcet-step-need wcet-step-lts.Need-sub-wcet-loop
-wcet-step-sub-wcet-loop t c = omega (arith, loop-reach (wcet-step-charged t (c .before .before .before) .fits) (c .if3 .taken))
-
--- src/region.rt:119:9
 wcet-step-wcet-loop-requires : wcet-step-need wcet-step-lts.Need-wcet-loop-requires
-wcet-step-wcet-loop-requires t c κs = (omega arith, loop-fits (wcet-step-charged t (c .before .before .before) .fits) (c .if3 .taken))
+wcet-step-wcet-loop-requires t c κs =
+    let f = c .before in
+    let k = f .before .before in
+    let p = k .before .before .before .before .before .before .before .before .before .pre in
+    (omega (arith, p .0), (p .1 .0, record { row = p .1 .1 .row; at = rw (f .block3 .given .1) at (k .block-at .ensures _ (p .1 .1)) }))
 
--- src/region.rt:119:9
-wcet-step-returns-4 : wcet-step-need wcet-step-lts.Need-returns-4
-wcet-step-returns-4 t c =
+wcet-step-returns-2 : wcet-step-need wcet-step-lts.Need-returns-2
+wcet-step-returns-2 t c to h = let k = c .before .before in step-plain (wcet-step-charged t (k .before) to h) (k .block-at .ensures to h) (c .enum-told2 .given .1)
+
+wcet-step-returns-3 : wcet-step-need wcet-step-lts.Need-returns-3
+wcet-step-returns-3 t c to h =
     let e = c .before in
-    step-loop (wcet-step-charged t (e .before .before .before)) (c .wcet-loop .result) (e .if3 .taken) (c .wcet-loop .ensures)
+    let k = e .before .before in
+    step-ends (wcet-step-charged t (k .before) to h) (k .block-at .ensures to h) _ (e .enum-told3 .given .1) (c .ended .ensures)
 
--- src/region.rt:121:5
-wcet-step-pass-op-requires : wcet-step-need wcet-step-lts.Need-pass-op-requires
-wcet-step-pass-op-requires t c κs = omega arith
+wcet-step-returns-4 : wcet-step-need wcet-step-lts.Need-returns-4
+wcet-step-returns-4 t c to h =
+    let n = c .before in
+    let e = n .before in
+    let k = e .before .before in
+    step-break (wcet-step-charged t (k .before) to h) (k .block-at .ensures to h) _ (e .enum-told4 .given .1) (n .note-break .ensures) (c .ended2 .ensures)
 
--- src/region.rt:88:1
 wcet-step-returns-5 : wcet-step-need wcet-step-lts.Need-returns-5
-wcet-step-returns-5 t c =
-    let l = c .before in
-    let i = l .before in
-    step-passed (wcet-step-charged t (i .before .before)) (i .if1 .left) (l .if3 .left) (c .pass-op .ensures)
+wcet-step-returns-5 t c to h =
+    let e = c .before in
+    let k = e .before .before in
+    step-break-if (wcet-step-charged t (k .before) to h) (k .block-at .ensures to h) (c .note-break2 .result) (e .enum-told5 .given .1) (c .note-break2 .ensures)
+
+wcet-step-returns-6 : wcet-step-need wcet-step-lts.Need-returns-6
+wcet-step-returns-6 t c to h =
+    let f = c .before .before in
+    let k = f .before .before in
+    step-if (wcet-step-charged t (k .before) to h) (k .block-at .ensures to h) (c .wcet-if .result) (f .block .given .1) (c .wcet-if .ensures)
+
+wcet-step-returns-7 : wcet-step-need wcet-step-lts.Need-returns-7
+wcet-step-returns-7 t c to h =
+    let f = c .before .before in
+    let k = f .before .before in
+    step-else (wcet-step-charged t (k .before) to h) (k .block-at .ensures to h) (c .wcet-else .result) (f .block2 .given .1) (c .wcet-else .ensures)
+
+wcet-step-returns-8 : wcet-step-need wcet-step-lts.Need-returns-8
+wcet-step-returns-8 t c to h =
+    let f = c .before .before in
+    let k = f .before .before in
+    step-loop (wcet-step-charged t (k .before) to h) (k .block-at .ensures to h) (c .wcet-loop .result) (f .block3 .given .1) (c .wcet-loop .ensures)
 
 pub +wcet-else+wcet-if+wcet-loop+wcet-part+wcet-region-at+wcet-step-spec :
     {M : Type 1} → statement M
 +wcet-else+wcet-if+wcet-loop+wcet-part+wcet-region-at+wcet-step-spec =
     close
     μ-wcet-else μ-wcet-if μ-wcet-loop μ-wcet-part μ-wcet-region-at μ-wcet-step
-    (λ t. wcet-else-lts.spec (wcet-else-calls t)
-    (wcet-else-at t) wcet-else.Post (wcet-else-mul-f t) (wcet-else-shared-slice-read-f t) (wcet-else-cast-f t) (wcet-else-add-wcet-part t)
-    (wcet-else-wcet-part-requires t) (wcet-else-enum-known-first t) (wcet-else-enum-known-first-2 t) (wcet-else-returns t)
-    (wcet-else-add-wcet-part-2 t) (wcet-else-wcet-part-requires-2 t) (wcet-else-enum-known-second t) (wcet-else-enum-known-second-2 t)
-    (wcet-else-returns-2 t) (wcet-else-join-arms-requires t) (wcet-else-returns-3 t))
-    (λ t. wcet-if-lts.spec (wcet-if-calls t)
-    (wcet-if-at t) wcet-if.Post (wcet-if-add-wcet-part t) (wcet-if-wcet-part-requires t) (wcet-if-enum-known-part t) (wcet-if-enum-known-part-2 t)
-    (wcet-if-returns t) (wcet-if-op-wcet-cycles-requires t) (wcet-if-enum-known-charge t) (wcet-if-enum-told t) (wcet-if-returns-2 t)
-    (wcet-if-add-t18 t) (wcet-if-cap-add-requires t) (wcet-if-cap-add-requires-2 t) (wcet-if-returns-3 t))
-    (λ t. wcet-loop-lts.spec (wcet-loop-calls t)
-    (wcet-loop-at t) wcet-loop.Post (wcet-loop-add-wcet-part t) (wcet-loop-wcet-part-requires t) (wcet-loop-enum-known-part t)
-    (wcet-loop-enum-known-part-2 t) (wcet-loop-returns t) (wcet-loop-one-pass-requires t) (wcet-loop-returns-2 t)
-    (wcet-loop-all-passes-requires t) (wcet-loop-returns-3 t))
+    (λ t. wcet-else-lts.spec (wcet-else-calls t) (wcet-else-at t) wcet-else.Post
+    (wcet-else-add-wcet-part t) (wcet-else-wcet-part-requires t) (λ c. search needs) (λ c. search needs) (wcet-else-returns t)
+    (λ c. omega arith) (wcet-else-wcet-part-requires-2 t) (λ c. search needs) (λ c. search needs) (wcet-else-returns-2 t)
+    (wcet-else-join-arms-requires t) (wcet-else-returns-3 t))
+    (λ t. wcet-if-lts.spec (wcet-if-calls t) (wcet-if-at t) wcet-if.Post
+    (wcet-if-add-wcet-part t) (wcet-if-wcet-part-requires t) (λ c. search needs) (λ c. search needs) (wcet-if-returns t)
+    (wcet-if-op-wcet-cycles-requires t) (λ c. search needs) (λ c. search needs) (wcet-if-returns-2 t) (wcet-if-add-t t) (λ c κs. tt) (λ c κs. tt)
+    (wcet-if-returns-3 t))
+    (λ t. wcet-loop-lts.spec (wcet-loop-calls t) (wcet-loop-at t) wcet-loop.Post
+    (wcet-loop-add-wcet-part t) (wcet-loop-wcet-part-requires t) (λ c. search needs) (λ c. search needs) (wcet-loop-returns t)
+    (wcet-loop-one-pass-requires t) (wcet-loop-returns-2 t) (wcet-loop-all-passes-requires t) (wcet-loop-returns-3 t))
     (λ t. wcet-part-lts.spec
-    (wcet-part-calls t) (wcet-part-at t) wcet-part.Post (wcet-part-returns t) (wcet-part-sub-wcet-region-at t) (wcet-part-wcet-region-at-requires t)
+    (wcet-part-calls t) (wcet-part-at t) wcet-part.Post (wcet-part-returns t) (λ c. omega arith) (wcet-part-wcet-region-at-requires t)
     (wcet-part-returns-2 t))
     (λ t. wcet-region-at-lts.spec
     (wcet-region-at-calls t) (wcet-region-at-at t) wcet-region-at.Post wcet-region-at-Inv-loop wcet-region-at-μ-loop (wcet-region-at-loop-holds t)
-    (wcet-region-at-wcet-step-requires t) (wcet-region-at-enum-known-step t) (wcet-region-at-loop-less t) (wcet-region-at-loop-again t)
-    (wcet-region-at-enum-known-step-2 t) (wcet-region-at-returns t) (wcet-region-at-enum-known-step-3 t) (wcet-region-at-returns-2 t)
+    (wcet-region-at-wcet-step-requires t) (λ c. search needs) (wcet-region-at-loop-less t) (wcet-region-at-loop-again t)
+    (λ c. search needs) (wcet-region-at-returns t) (λ c. search needs) (wcet-region-at-returns-2 t)
     (wcet-region-at-returns-3 t))
-    λ t. wcet-step-lts.spec (wcet-step-calls t)
-    (wcet-step-at t) wcet-step.Post (wcet-step-op-wcet-cycles-requires t) (wcet-step-enum-known-charge t) (wcet-step-enum-told t)
-    (wcet-step-returns t) (wcet-step-cap-add-requires t) (wcet-step-mul-w t) (wcet-step-shared-slice-read-w t) (wcet-step-cast-t t)
-    (wcet-step-sub-if2 t) (wcet-step-mul-if2 t) (wcet-step-shared-slice-read-if2 t) (wcet-step-sub-wcet-else t) (wcet-step-wcet-else-requires t)
-    (wcet-step-returns-2 t) (wcet-step-wcet-if-requires t) (wcet-step-returns-3 t) (wcet-step-sub-wcet-loop t) (wcet-step-wcet-loop-requires t)
-    (wcet-step-returns-4 t) (wcet-step-pass-op-requires t) (wcet-step-returns-5 t)
+    λ t. wcet-step-lts.spec (wcet-step-calls t) (wcet-step-at t) wcet-step.Post
+    (wcet-step-op-wcet-cycles-requires t) (λ c. search needs) (λ c. search needs) (wcet-step-returns t) (λ c κs. tt) (wcet-step-block-at-requires t)
+    (λ c. search needs) (wcet-step-add-plain t) (λ c. search needs) (λ c κs. tt) (λ c. search needs) (λ c κs. tt) (λ c κs. tt)
+    (λ c. search needs) (wcet-step-add-break-if t) (λ c κs. tt) (λ c. search needs) (wcet-step-wcet-if-requires t) (λ c. search needs)
+    (wcet-step-wcet-else-requires t) (λ c. search needs) (wcet-step-wcet-loop-requires t) (wcet-step-returns-2 t) (wcet-step-returns-3 t)
+    (wcet-step-returns-4 t) (wcet-step-returns-5 t) (wcet-step-returns-6 t) (wcet-step-returns-7 t) (wcet-step-returns-8 t)

@@ -12,38 +12,15 @@ use borrow.Author.Needs.{needs}
 use Rattle.cycles.proofs.region.join_arms.Statement.{statement}
 use Rattle.cycles.proofs.region.join_arms.Tie as tie
 
--- src/region.rt:243:9
-op-wcet-cycles-requires : tie.Need-op-wcet-cycles-requires
-op-wcet-cycles-requires c κs = search needs
-
--- src/region.rt:244:20
-enum-known-charge : tie.Need-enum-known-charge
-enum-known-charge c = search needs
-
--- src/region.rt:245:9
 enum-told : tie.Need-enum-told
 enum-told c = search needs
 
--- src/region.rt:245:9
 returns : tie.Need-returns
 returns c =
     let w = c .before .before in
     let a = w .before .before .before .args in
     join-open (a .ops .now) (a .extras .now) (a .e) (a .f) (a .cost) (a .arm) (a .other) (rw (c .enum-told .given .1) at (w .op-wcet-cycles .ensures))
 
--- src/region.rt:250:9
-op-wcet-cycles-requires-2 : tie.Need-op-wcet-cycles-requires-2
-op-wcet-cycles-requires-2 c κs = search needs
-
--- src/region.rt:251:20
-enum-known-last : tie.Need-enum-known-last
-enum-known-last c = search needs
-
--- src/region.rt:252:9
-enum-told-2 : tie.Need-enum-told-2
-enum-told-2 c = search needs
-
--- src/region.rt:252:9
 returns-2 : tie.Need-returns-2
 returns-2 c =
     let w = c .before .before in
@@ -52,18 +29,6 @@ returns-2 c =
     join-open-end (a .ops .now) (a .extras .now) (a .e) (a .f) (a .cost) (a .arm) (a .other) _
     (rw (d .charge .given .1) at (d .before .before .op-wcet-cycles .ensures))
     (rw (c .enum-told2 .given .1) at (w .op-wcet-cycles2 .ensures))
-
--- src/region.rt:257:9
-cap-add-requires : tie.Need-cap-add-requires
-cap-add-requires c κs = search needs
-
--- src/region.rt:263:25
-cap-add-requires-2 : tie.Need-cap-add-requires-2
-cap-add-requires-2 c κs = search needs
-
--- src/region.rt:263:9
-cap-add-requires-3 : tie.Need-cap-add-requires-3
-cap-add-requires-3 c κs = search needs
 
 -- behind both charges: the total, and whether the row ends
 total : (c : tie.After-noted) →
@@ -81,21 +46,11 @@ total c =
     (rw (l .last .given .1) at (l .before .before .op-wcet-cycles2 .ensures)) (s .cap-add .ensures)
     (⊎-elim (λ w. omega arith) (λ w. omega arith) (j .if1 .came)) (c .before .before .cap-add2 .ensures) (c .before .cap-add3 .ensures)
 
--- src/region.rt:266:9
-ended-requires : tie.Need-ended-requires
-ended-requires c κs = search needs
-
--- src/region.rt:266:9
 returns-3 : tie.Need-returns-3
 returns-3 c =
     let n = c .before .before in
     c .ended .ensures ∙ total (n .before) true (rw (n .if2 .taken, c .before .if3 .taken))
 
--- src/region.rt:268:16
-add-t21 : tie.Need-add-t21
-add-t21 c = search needs
-
--- src/region.rt:231:1
 returns-4 : tie.Need-returns-4
 returns-4 c =
     rw add-one (total (c .before) false (⊎-elim (λ w. rw (w .0 .taken, w .1 .left)) (λ w. rw (w .left)) (c .if2 .came)))
@@ -103,19 +58,5 @@ returns-4 c =
 pub join-arms-spec : {M : Type 1} → statement M
 join-arms-spec =
     tie.close
-    (tie.spec
-    op-wcet-cycles-requires
-    enum-known-charge
-    enum-told
-    returns
-    op-wcet-cycles-requires-2
-    enum-known-last
-    enum-told-2
-    returns-2
-    cap-add-requires
-    cap-add-requires-2
-    cap-add-requires-3
-    ended-requires
-    returns-3
-    add-t21
-    returns-4)
+    (tie.spec (λ c κs. search needs) (λ c. search needs) enum-told returns (λ c κs. search needs) (λ c. search needs) (λ c. search needs) returns-2
+    (λ c κs. search needs) (λ c κs. search needs) (λ c κs. search needs) (λ c κs. search needs) returns-3 (λ c. search needs) returns-4)

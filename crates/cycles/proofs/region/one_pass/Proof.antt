@@ -9,30 +9,12 @@ use borrow.Author.Needs.{needs}
 use Rattle.cycles.proofs.region.one_pass.Statement.{statement}
 use Rattle.cycles.proofs.region.one_pass.Tie as tie
 
--- src/region.rt:347:22
-cap-add-requires : tie.Need-cap-add-requires
-cap-add-requires c κs = search needs
-
--- src/region.rt:347:9
-ended-requires : tie.Need-ended-requires
-ended-requires c κs = search needs
-
--- src/region.rt:347:9
 returns : tie.Need-returns
 returns c =
     let k = c .before .before in
     let a = k .before .before .before .args in
     c .ended .ensures ∙ once-ends (a .e) (a .cost) _ (a .body) (a .breaks) (not-true _ (k .if1 .taken)) (c .before .cap-add .ensures)
 
--- src/region.rt:354:16
-add-t10 : tie.Need-add-t10
-add-t10 c = search needs
-
--- src/region.rt:354:23
-cap-add-requires-2 : tie.Need-cap-add-requires-2
-cap-add-requires-2 c κs = search needs
-
--- src/region.rt:341:1
 returns-2 : tie.Need-returns-2
 returns-2 c =
     let m = c .before in
@@ -44,4 +26,4 @@ returns-2 c =
 pub one-pass-spec : {M : Type 1} → statement M
 one-pass-spec =
     tie.close
-    (tie.spec cap-add-requires ended-requires returns add-t10 cap-add-requires-2 returns-2)
+    (tie.spec (λ c κs. search needs) (λ c κs. search needs) returns (λ c. search needs) (λ c κs. search needs) returns-2)

@@ -8,29 +8,8 @@ use borrow.Author.Needs.{needs}
 use Rattle.exports.proofs.lent.pm_stack.Statement.{statement}
 use Rattle.exports.proofs.lent.pm_stack.Tie as tie
 
-stack-walk-requires : tie.Need-stack-walk-requires
-stack-walk-requires c κs = search needs
-
-enum-known-answer : tie.Need-enum-known-answer
-enum-known-answer c = search needs
-
-enum-known-delta : tie.Need-enum-known-delta
-enum-known-delta c = search needs
-
-store-requires : tie.Need-store-requires
-store-requires c κs = search needs
-
 enum-told : tie.Need-enum-told
 enum-told c = search needs
-
-store-requires-2 : tie.Need-store-requires-2
-store-requires-2 c κs = search needs
-
-enum-known-answer-2 : tie.Need-enum-known-answer-2
-enum-known-answer-2 c = search needs
-
-pack-refusal-requires : tie.Need-pack-refusal-requires
-pack-refusal-requires c κs = search needs
 
 returns : tie.Need-returns
 returns c =
@@ -61,15 +40,5 @@ returns-3 c =
 pub pm-stack-spec : {M : Type 1} → statement M
 pm-stack-spec =
     tie.close
-    (tie.spec
-    stack-walk-requires
-    enum-known-answer
-    enum-known-delta
-    store-requires
-    enum-told
-    store-requires-2
-    enum-known-answer-2
-    pack-refusal-requires
-    returns
-    returns-2
-    returns-3)
+    (tie.spec (λ c κs. search needs) (λ c. search needs) (λ c. search needs) (λ c κs. search needs) enum-told (λ c κs. search needs)
+    (λ c. search needs) (λ c κs. search needs) returns returns-2 returns-3)

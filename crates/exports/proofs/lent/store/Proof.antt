@@ -8,24 +8,6 @@ use borrow.Author.Needs.{needs}
 use Rattle.exports.proofs.lent.store.Statement.{statement}
 use Rattle.exports.proofs.lent.store.Tie as tie
 
-cast-out : tie.Need-cast-out
-cast-out c = search needs
-
-slice-set-from-out : tie.Need-slice-set-from-out
-slice-set-from-out c = search needs
-
-slice-set-from-delta : tie.Need-slice-set-from-delta
-slice-set-from-delta c = search needs
-
-cast-out-2 : tie.Need-cast-out-2
-cast-out-2 c = search needs
-
-slice-set-from-out-2 : tie.Need-slice-set-from-out-2
-slice-set-from-out-2 c = search needs
-
-same-length : tie.Need-same-length
-same-length c = search needs
-
 returns : tie.Need-returns
 returns c =
     rw (toZ-ofZ w64 (c .args .delta) (c .fits .delta))
@@ -34,11 +16,4 @@ returns c =
 pub store-spec : {M : Type 1} → statement M
 store-spec =
     tie.close
-    (tie.spec
-    cast-out
-    slice-set-from-out
-    slice-set-from-delta
-    cast-out-2
-    slice-set-from-out-2
-    same-length
-    returns)
+    (tie.spec (λ c. search needs) (λ c. search needs) (λ c. search needs) (λ c. search needs) (λ c. search needs) (λ c. search needs) returns)

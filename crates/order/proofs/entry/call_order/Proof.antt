@@ -22,11 +22,6 @@ abbrev μ-loop : tie.MeasureT-loop
 abbrev entry : tie.After-begun Inv-loop μ-loop → tie.Start Inv-loop μ-loop
 entry c = c .before .before .before .before
 
--- src/entry.rt:33:17
-begun-requires : tie.Need-begun-requires Inv-loop μ-loop
-begun-requires c κs = search needs
-
--- src/entry.rt:35:5
 loop-holds : tie.Need-loop-holds Inv-loop μ-loop
 loop-holds c =
     let words = entry c .pre .words in
@@ -42,34 +37,21 @@ asked c =
 few : (c : tie.In-loop Inv-loop μ-loop) → entry (c .before .before) .args .n ≤ 256
 few c = few-chunks (asked c .places .words)
 
--- src/entry.rt:36:13
 element-copy-out-if1 : tie.Need-element-copy-out-if1 Inv-loop μ-loop
 element-copy-out-if1 c = omega (arith, few c)
 
--- src/entry.rt:37:63
 add-topo-visit : tie.Need-add-topo-visit Inv-loop μ-loop
 add-topo-visit c = omega (arith, few (c .before .before))
 
--- src/entry.rt:37:17
 topo-visit-requires : tie.Need-topo-visit-requires Inv-loop μ-loop
 topo-visit-requires c κs = asked (c .before .before)
 
--- src/entry.rt:39:17
 returns : tie.Need-returns Inv-loop μ-loop
 returns c =
     let v = c .before in
     let i = v .before .before .before in
     walk-ring (i .before .loop .inv) _ (i .loop-test .taken) (v .topo-visit .ensures) (c .if2 .taken)
 
--- src/entry.rt:42:9
-add-c : tie.Need-add-c Inv-loop μ-loop
-add-c c = search needs
-
--- src/entry.rt:35:5
-loop-less : tie.Need-loop-less Inv-loop μ-loop
-loop-less c = search needs
-
--- src/entry.rt:35:5
 loop-again : tie.Need-loop-again Inv-loop μ-loop
 loop-again c =
     let i = c .before .before in
@@ -79,23 +61,11 @@ loop-again c =
     (λ v. rw (v .1) (walk-past w (asked i) (not-false _ (v .0 .left))))
     (c .if1 .came)
 
--- src/entry.rt:29:1
 returns-2 : tie.Need-returns-2 Inv-loop μ-loop
 returns-2 c = walk-end (c .before .loop .inv) (c .loop-test .left)
 
 pub call-order-spec : {M : Type 1} → statement M
 call-order-spec =
     tie.close
-    (tie.spec
-    Inv-loop
-    μ-loop
-    begun-requires
-    loop-holds
-    element-copy-out-if1
-    add-topo-visit
-    topo-visit-requires
-    returns
-    add-c
-    loop-less
-    loop-again
-    returns-2)
+    (tie.spec Inv-loop μ-loop (λ c κs. search needs) loop-holds element-copy-out-if1 add-topo-visit topo-visit-requires returns (λ c. search needs)
+    (λ c. search needs) loop-again returns-2)

@@ -15,45 +15,17 @@ Inv-loop order n tray₀ i₀ tray i = (i ≤ n) × (length tray ≡ length tray
 abbrev μ-loop : tie.MeasureT-loop
 μ-loop order n tray₀ i₀ tray i = n - i
 
--- src/entry.rt:92:5
-loop-holds : tie.Need-loop-holds Inv-loop μ-loop
-loop-holds c = search needs
-
--- src/entry.rt:93:19
-shared-slice-read-tray : tie.Need-shared-slice-read-tray Inv-loop μ-loop
-shared-slice-read-tray c = search needs
-
--- src/entry.rt:93:19
 cast-tray : tie.Need-cast-tray Inv-loop μ-loop
 cast-tray c = omega (arith, c .shared-slice-known .given (c .before .before .loop .i))
 
--- src/entry.rt:93:9
-mul-tray : tie.Need-mul-tray Inv-loop μ-loop
-mul-tray c = search needs
-
--- src/entry.rt:93:9
-slice-write-tray : tie.Need-slice-write-tray Inv-loop μ-loop
-slice-write-tray c = search needs
-
--- src/entry.rt:94:9
-add-i : tie.Need-add-i Inv-loop μ-loop
-add-i c = search needs
-
--- src/entry.rt:92:5
-loop-less : tie.Need-loop-less Inv-loop μ-loop
-loop-less c = search needs
-
--- src/entry.rt:92:5
 loop-again : tie.Need-loop-again Inv-loop μ-loop
 loop-again c =
     let l = c .before .before .loop in
     (omega arith, simp length-set (l .inv .1), rw (l .inv .2) (filled-more _ _ (l .i) (omega arith) (omega arith)))
 
--- src/entry.rt:87:1
 same-length : tie.Need-same-length Inv-loop μ-loop
 same-length c = c .before .loop .inv .1
 
--- src/entry.rt:87:1
 returns : tie.Need-returns Inv-loop μ-loop
 returns c =
     let l = c .before .loop in
@@ -63,16 +35,5 @@ returns c =
 pub fill-tray-spec : {M : Type 1} → statement M
 fill-tray-spec =
     tie.close
-    (tie.spec
-    Inv-loop
-    μ-loop
-    loop-holds
-    shared-slice-read-tray
-    cast-tray
-    mul-tray
-    slice-write-tray
-    add-i
-    loop-less
-    loop-again
-    same-length
-    returns)
+    (tie.spec Inv-loop μ-loop (λ c. search needs) (λ c. search needs) cast-tray (λ c. search needs) (λ c. search needs) (λ c. search needs)
+    (λ c. search needs) loop-again same-length returns)

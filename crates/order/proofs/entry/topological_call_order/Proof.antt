@@ -10,28 +10,11 @@ use borrow.Author.Needs.{needs}
 use Rattle.order.proofs.entry.topological_call_order.Statement.{statement}
 use Rattle.order.proofs.entry.topological_call_order.Tie as tie
 
--- src/entry.rt:52:9
-read-module-requires : tie.Need-read-module-requires
-read-module-requires c κs = search needs
-
--- src/entry.rt:54:28
-enum-known-reading : tie.Need-enum-known-reading
-enum-known-reading c = search needs
-
--- src/entry.rt:55:13
 returns : tie.Need-returns
 returns c =
     let r = c .before .before .before in
     let a = r .before .before .before .args in
     unread (a .words .now) (a .tray .now) _ _ (rw (c .before .reading .given .1) at (r .read-module .ensures))
-
--- src/entry.rt:61:27
-enum-known-reading-2 : tie.Need-enum-known-reading-2
-enum-known-reading-2 c = search needs
-
--- src/entry.rt:61:38
-cast-n : tie.Need-cast-n
-cast-n c = search needs
 
 -- the reader accepted the words
 accepted-words : (c : tie.After-known-told2) → Readable (c .before .before .before .before .before .before .args .words .now) (c .before .reading2 .given .0 .0)
@@ -40,21 +23,17 @@ accepted-words c =
     let a = accepted (r .before .before .before .args .words .now) _ (rw (c .before .reading2 .given .1) at (r .read-module .ensures)) in
     record { reads = a .0; chunks = sym (a .1) }
 
--- src/entry.rt:64:9
 returns-2 : tie.Need-returns-2
 returns-2 c = short-tray (accepted-words (c .before)) _ (c .if1 .taken)
 
--- src/entry.rt:70:9
 chunk-places-requires : tie.Need-chunk-places-requires
 chunk-places-requires c κs =
     let words = accepted-words (c .before) in
     (words .reads, words .chunks)
 
--- src/entry.rt:73:31
 slice-aggregate-call-order : tie.Need-slice-aggregate-call-order
 slice-aggregate-call-order c = search needs
 
--- src/entry.rt:73:40
 slice-aggregate-call-order-2 : tie.Need-slice-aggregate-call-order-2
 slice-aggregate-call-order-2 c = search needs
 
@@ -62,7 +41,6 @@ slice-aggregate-call-order-2 c = search needs
 abbrev placed : tie.After-extras-at2 → tie.After-chunk-places
 placed c = c .before .before .before .before
 
--- src/entry.rt:73:9
 call-order-requires : tie.Need-call-order-requires
 call-order-requires c κs =
     let p = placed c in
@@ -75,32 +53,20 @@ call-order-requires c κs =
       extras-room = omega (arith, few-chunks words, slice-aggregate-call-order-2 c);
     }
 
--- src/entry.rt:75:9
 returns-3 : tie.Need-returns-3
 returns-3 c =
     let o = c .before .before in
     let e = placed (o .before) .before in
     ring-met (accepted-words (e .before)) _ (o .call-order .ensures) _ (e .if1 .left) (c .if2 .taken)
 
--- src/entry.rt:82:15
 slice-aggregate-fill-tray : tie.Need-slice-aggregate-fill-tray
 slice-aggregate-fill-tray c = search needs
 
--- src/entry.rt:82:5
 fill-tray-requires : tie.Need-fill-tray-requires
 fill-tray-requires c κs =
     let e = placed (c .before .before .before .before .before .before) .before in
     (omega (arith, few-chunks (accepted-words (e .before)), slice-aggregate-fill-tray (c .before)), e .if1 .left)
 
--- src/entry.rt:83:25
-cast-t25 : tie.Need-cast-t25
-cast-t25 c = search needs
-
--- src/entry.rt:48:1
-same-length : tie.Need-same-length
-same-length c = search needs
-
--- src/entry.rt:48:1
 returns-4 : tie.Need-returns-4
 returns-4 c =
     let t = c .before .before in
@@ -112,20 +78,6 @@ returns-4 c =
 pub topological-call-order-spec : {M : Type 1} → statement M
 topological-call-order-spec =
     tie.close
-    (tie.spec
-    read-module-requires
-    enum-known-reading
-    returns
-    enum-known-reading-2
-    cast-n
-    returns-2
-    chunk-places-requires
-    slice-aggregate-call-order
-    slice-aggregate-call-order-2
-    call-order-requires
-    returns-3
-    slice-aggregate-fill-tray
-    fill-tray-requires
-    cast-t25
-    same-length
-    returns-4)
+    (tie.spec (λ c κs. search needs) (λ c. search needs) returns (λ c. search needs) (λ c. search needs) returns-2 chunk-places-requires
+    slice-aggregate-call-order slice-aggregate-call-order-2 call-order-requires returns-3 slice-aggregate-fill-tray fill-tray-requires
+    (λ c. search needs) (λ c. search needs) returns-4)

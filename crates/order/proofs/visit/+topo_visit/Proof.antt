@@ -68,89 +68,52 @@ opened-at t c = c .before .before .before
 has-room : (t : ℕ) (c : place topo-visit-lts.At-loop t) → c .loop .t .count < 256
 has-room t c = room (opens t (opened-at t c)) (c .loop .inv)
 
--- src/visit.rt:47:21
 topo-visit-element-copy-out-if2 : topo-visit-need topo-visit-lts.Need-element-copy-out-if2
 topo-visit-element-copy-out-if2 t c = small t (c .before .before .before .before)
 
--- src/visit.rt:49:9
 topo-visit-returns : topo-visit-need topo-visit-lts.Need-returns
 topo-visit-returns t c =
     let p = c .before .before .before .before .pre .1 in
     ⊎-elim (λ w. visited-none p _ (w .taken)) (λ w. visited-open p _ (w .2 .taken)) (c .if1 .came)
 
--- src/visit.rt:51:8
 topo-visit-element-copy-out-if3 : topo-visit-need topo-visit-lts.Need-element-copy-out-if3
 topo-visit-element-copy-out-if3 t c = small t (c .before .before .before .before .before .before)
 
--- src/visit.rt:52:9
 topo-visit-returns-2 : topo-visit-need topo-visit-lts.Need-returns-2
 topo-visit-returns-2 t c =
     let e = c .before .before in
     visited-listed (e .before .before .before .before .before .before .pre .1) _ (e .before .before .if1 .left) (c .if3 .taken)
 
--- src/visit.rt:54:5
 topo-visit-element-write-t : topo-visit-need topo-visit-lts.Need-element-write-t
 topo-visit-element-write-t t c = small t (entry t c)
 
--- src/visit.rt:55:15
 topo-visit-mul-end : topo-visit-need topo-visit-lts.Need-mul-end
 topo-visit-mul-end t c = omega (arith, small t (entry t c))
 
--- src/visit.rt:55:15
-topo-visit-shared-slice-read-end : topo-visit-need topo-visit-lts.Need-shared-slice-read-end
-topo-visit-shared-slice-read-end t c = search needs
-
--- src/visit.rt:55:15
 topo-visit-cast-end : topo-visit-need topo-visit-lts.Need-cast-end
 topo-visit-cast-end t c = omega (arith, c .shared-slice-known4 .given (entry t (c .before) .args .c))
 
--- src/visit.rt:56:17
 topo-visit-mul-i : topo-visit-need topo-visit-lts.Need-mul-i
 topo-visit-mul-i t c = omega (arith, small t (entry t (c .before)))
 
--- src/visit.rt:56:17
-topo-visit-shared-slice-read-i : topo-visit-need topo-visit-lts.Need-shared-slice-read-i
-topo-visit-shared-slice-read-i t c = search needs
-
--- src/visit.rt:56:17
 topo-visit-cast-i : topo-visit-need topo-visit-lts.Need-cast-i
 topo-visit-cast-i t c = omega (arith, c .shared-slice-known5 .given (entry t (c .before .before) .args .c))
 
--- src/visit.rt:57:5
 topo-visit-loop-holds : topo-visit-need topo-visit-lts.Need-loop-holds
 topo-visit-loop-holds t c =
     let p = entry t (c .before .before) .pre .1 in
     rest-begins (ops-within (p .places) _ (p .chunk))
 
--- src/visit.rt:58:17
-topo-visit-mul-w : topo-visit-need topo-visit-lts.Need-mul-w
-topo-visit-mul-w t c = search needs
-
--- src/visit.rt:58:17
-topo-visit-shared-slice-read-w : topo-visit-need topo-visit-lts.Need-shared-slice-read-w
-topo-visit-shared-slice-read-w t c = search needs
-
--- src/visit.rt:59:22
-topo-visit-cast-callee : topo-visit-need topo-visit-lts.Need-cast-callee
-topo-visit-cast-callee t c = search needs
-
--- src/visit.rt:60:63
 topo-visit-element-copy-out-if7 : topo-visit-need topo-visit-lts.Need-element-copy-out-if7
 topo-visit-element-copy-out-if7 t c =
     let l = c .before .before .before .before .before in
     omega (arith, few-chunks (entry t (opened-at t l) .pre .1 .places .words), ltb-true)
 
--- src/visit.rt:61:68
-topo-visit-sub-topo-visit : topo-visit-need topo-visit-lts.Need-sub-topo-visit
-topo-visit-sub-topo-visit t c = search needs
-
--- src/visit.rt:61:17
 topo-visit-topo-visit-requires : topo-visit-need topo-visit-lts.Need-topo-visit-requires
 topo-visit-topo-visit-requires t c κs =
     let l = c .before .before .before .before .before .before in
     (omega arith, inside (opens t (opened-at t l)) (l .loop .inv) _ (ltb-true _ _ (c .before .before .if5 .taken)))
 
--- src/visit.rt:63:17
 topo-visit-returns-3 : topo-visit-need topo-visit-lts.Need-returns-3
 topo-visit-returns-3 t c =
     let f = c .before .before .before .before in
@@ -158,15 +121,6 @@ topo-visit-returns-3 t c =
     visited-ring (opens t (opened-at t l)) (l .loop .inv) _ (f .before .before .before .loop-test .taken) (f .before .if4 .taken)
     (ltb-true _ _ (f .if5 .taken)) (c .before .topo-visit .ensures) (c .if8 .taken)
 
--- src/visit.rt:66:9
-topo-visit-add-i : topo-visit-need topo-visit-lts.Need-add-i
-topo-visit-add-i t c = search needs
-
--- src/visit.rt:57:5
-topo-visit-loop-less : topo-visit-need topo-visit-lts.Need-loop-less
-topo-visit-loop-less t c = search needs
-
--- src/visit.rt:57:5
 topo-visit-loop-again : topo-visit-need topo-visit-lts.Need-loop-again
 topo-visit-loop-again t c =
     let l = c .before .before .before in
@@ -186,27 +140,21 @@ topo-visit-loop-again t c =
     (w .0 .came)))
     (c .if4 .came)
 
--- src/visit.rt:68:5
 topo-visit-element-write-t-2 : topo-visit-need topo-visit-lts.Need-element-write-t-2
 topo-visit-element-write-t-2 t c = small t (entry t (opened-at t (c .before)))
 
--- src/visit.rt:69:5
 topo-visit-element-write-t-3 : topo-visit-need topo-visit-lts.Need-element-write-t-3
 topo-visit-element-write-t-3 t c = small t (entry t (opened-at t (c .before)))
 
--- src/visit.rt:71:19
 topo-visit-cast-t : topo-visit-need topo-visit-lts.Need-cast-t
 topo-visit-cast-t t c = omega (arith, small t (entry t (opened-at t (c .before))))
 
--- src/visit.rt:71:5
 topo-visit-element-write-t-4 : topo-visit-need topo-visit-lts.Need-element-write-t-4
 topo-visit-element-write-t-4 t c = has-room t (c .before)
 
--- src/visit.rt:72:15
 topo-visit-add-t : topo-visit-need topo-visit-lts.Need-add-t
 topo-visit-add-t t c = omega (arith, has-room t (c .before))
 
--- src/visit.rt:34:1
 topo-visit-returns-4 : topo-visit-need topo-visit-lts.Need-returns-4
 topo-visit-returns-4 t c =
     let l = c .before in
@@ -224,21 +172,21 @@ pub +topo-visit-spec : {M : Type 1} → statement M
     (topo-visit-returns-2 t)
     (topo-visit-element-write-t t)
     (topo-visit-mul-end t)
-    (topo-visit-shared-slice-read-end t)
+    (λ c. search needs)
     (topo-visit-cast-end t)
     (topo-visit-mul-i t)
-    (topo-visit-shared-slice-read-i t)
+    (λ c. search needs)
     (topo-visit-cast-i t)
     (topo-visit-loop-holds t)
-    (topo-visit-mul-w t)
-    (topo-visit-shared-slice-read-w t)
-    (topo-visit-cast-callee t)
+    (λ c. search needs)
+    (λ c. search needs)
+    (λ c. search needs)
     (topo-visit-element-copy-out-if7 t)
-    (topo-visit-sub-topo-visit t)
+    (λ c. search needs)
     (topo-visit-topo-visit-requires t)
     (topo-visit-returns-3 t)
-    (topo-visit-add-i t)
-    (topo-visit-loop-less t)
+    (λ c. search needs)
+    (λ c. search needs)
     (topo-visit-loop-again t)
     (topo-visit-element-write-t-2 t)
     (topo-visit-element-write-t-3 t)

@@ -8,7 +8,6 @@ use Rattle.rows.proofs.DecisionLaws.{InStretch, if-behind, if-past, els
 use Rattle.rows.proofs.check.opens_if.Statement.{statement}
 use Rattle.rows.proofs.check.opens_if.Tie as tie
 
--- src/check.rt:30:9
 returns : tie.Need-returns
 returns c =
     let a = c .before .args in
@@ -17,52 +16,33 @@ returns c =
     (λ w. if-past (a .ops .now) (a .i) (a .t) (a .to) (ltb-true (a .to) (a .t) (w .1 .taken)))
     (c .if1 .came)
 
--- src/check.rt:32:13
-sub-e : tie.Need-sub-e
-sub-e c = search needs
-
 -- behind the first tests
 in-stretch : (c : tie.Else2) → let a = c .before .before .args in InStretch (a .ops .now) (a .i) (a .t) (a .to)
 in-stretch c =
     let s = c .before .before in
     record { fits = s .pre; behind = c .before .if1 .left; within = ltb-false (s .args .to) (s .args .t) (c .if2 .left) }
 
--- src/check.rt:33:8
 mul-if3 : tie.Need-mul-if3
 mul-if3 c = omega (arith, ltb-false)
 
--- src/check.rt:33:8
 shared-slice-read-if3 : tie.Need-shared-slice-read-if3
 shared-slice-read-if3 c = omega (arith, ltb-false)
 
--- src/check.rt:34:18
 mul-f : tie.Need-mul-f
 mul-f c = omega (arith, ltb-false)
 
--- src/check.rt:34:18
 shared-slice-read-f : tie.Need-shared-slice-read-f
 shared-slice-read-f c = omega (arith, ltb-false)
 
--- src/check.rt:34:17
-cast-f : tie.Need-cast-f
-cast-f c = search needs
-
--- src/check.rt:35:31
-mul-if6 : tie.Need-mul-if6
-mul-if6 c = search needs
-
--- src/check.rt:35:31
 shared-slice-read-if6 : tie.Need-shared-slice-read-if6
 shared-slice-read-if6 c = omega (arith, ltb-true)
 
--- src/check.rt:36:13
 returns-2 : tie.Need-returns-2
 returns-2 c =
     let f = c .before .before .before .before in
     else-at (in-stretch (f .before .before .before)) (f .before .if3 .taken) (c .before .before .before .if4 .taken) (c .before .before .if5 .taken) true
     (c .if6 .taken)
 
--- src/check.rt:38:9
 returns-3 : tie.Need-returns-3
 returns-3 c =
     let f = c .before .before in
@@ -73,21 +53,11 @@ returns-3 c =
     (⊎-elim (λ w. else-past s e (w .1 .left)) (λ w. else-behind s e (w .left)))
     (c .if4 .came)
 
--- src/check.rt:40:18
-mul-if8 : tie.Need-mul-if8
-mul-if8 c = search needs
-
--- src/check.rt:40:18
-shared-slice-read-if8 : tie.Need-shared-slice-read-if8
-shared-slice-read-if8 c = search needs
-
--- src/check.rt:41:9
 returns-4 : tie.Need-returns-4
 returns-4 c =
     let e = c .before .before .before in
     end-at (in-stretch (e .before .before)) (e .if3 .left) (c .before .before .if7 .taken) true (c .if8 .taken)
 
--- src/check.rt:25:1
 returns-5 : tie.Need-returns-5
 returns-5 c =
     let e = c .before in
@@ -97,19 +67,5 @@ returns-5 c =
 pub opens-if-spec : {M : Type 1} → statement M
 opens-if-spec =
     tie.close
-    (tie.spec
-    returns
-    sub-e
-    mul-if3
-    shared-slice-read-if3
-    mul-f
-    shared-slice-read-f
-    cast-f
-    mul-if6
-    shared-slice-read-if6
-    returns-2
-    returns-3
-    mul-if8
-    shared-slice-read-if8
-    returns-4
-    returns-5)
+    (tie.spec returns (λ c. search needs) mul-if3 shared-slice-read-if3 mul-f shared-slice-read-f (λ c. search needs) (λ c. search needs)
+    shared-slice-read-if6 returns-2 returns-3 (λ c. search needs) (λ c. search needs) returns-4 returns-5)

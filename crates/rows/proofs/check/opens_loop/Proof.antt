@@ -8,11 +8,6 @@ use Rattle.rows.proofs.DecisionLaws.{InStretch, loop-behind, loop-past,
 use Rattle.rows.proofs.check.opens_loop.Statement.{statement}
 use Rattle.rows.proofs.check.opens_loop.Tie as tie
 
--- src/check.rt:51:13
-add-if1 : tie.Need-add-if1
-add-if1 c = search needs
-
--- src/check.rt:52:9
 returns : tie.Need-returns
 returns c =
     let a = c .before .args in
@@ -21,21 +16,11 @@ returns c =
     (λ w. loop-past (a .ops .now) (a .i) (a .t) (a .to) (ltb-true (a .to) (a .t) (w .1 .taken)))
     (c .if1 .came)
 
--- src/check.rt:54:12
-sub-if3 : tie.Need-sub-if3
-sub-if3 c = search needs
-
--- src/check.rt:54:8
 mul-if3 : tie.Need-mul-if3
 mul-if3 c = omega (arith, ltb-false)
 
--- src/check.rt:54:8
 shared-slice-read-if3 : tie.Need-shared-slice-read-if3
 shared-slice-read-if3 c = omega (arith, ltb-false)
-
--- src/check.rt:55:30
-sub-t13 : tie.Need-sub-t13
-sub-t13 c = search needs
 
 -- behind the first tests
 in-stretch : (c : tie.Else2) → let a = c .before .before .args in InStretch (a .ops .now) (a .i) (a .t) (a .to)
@@ -43,12 +28,10 @@ in-stretch c =
     let s = c .before .before in
     record { fits = s .pre .1; behind = omega arith; within = ltb-false (s .args .to) (s .args .t) (c .if2 .left) }
 
--- src/check.rt:55:9
 returns-2 : tie.Need-returns-2
 returns-2 c =
     loop-at (in-stretch (c .before .before)) (c .before .before .before .if1 .left) true (eq-eqb _ 25 (c .if3 .taken))
 
--- src/check.rt:47:1
 returns-3 : tie.Need-returns-3
 returns-3 c =
     loop-at (in-stretch (c .before .before)) (c .before .before .before .if1 .left) false (ne-eqb _ 25 (c .if3 .left))
@@ -56,4 +39,4 @@ returns-3 c =
 pub opens-loop-spec : {M : Type 1} → statement M
 opens-loop-spec =
     tie.close
-    (tie.spec add-if1 returns sub-if3 mul-if3 shared-slice-read-if3 sub-t13 returns-2 returns-3)
+    (tie.spec (λ c. search needs) returns (λ c. search needs) mul-if3 shared-slice-read-if3 (λ c. search needs) returns-2 returns-3)

@@ -28,9 +28,6 @@ loop-holds c =
     let a = s .args in
     record { size = refl; enough = s .pre .3; stage = start (opAt (a .ops .now)) (a .from) (a .to) (s .pre .0) }
 
-sub-bound : tie.Need-sub-bound Inv-loop μ-loop
-sub-bound c = omega arith
-
 mul-bound : tie.Need-mul-bound Inv-loop μ-loop
 mul-bound c = omega (arith, sizes (c .before .before .loop .inv))
 
@@ -52,12 +49,6 @@ bound-is c =
 
 opens-at-requires : tie.Need-opens-at-requires Inv-loop μ-loop
 opens-at-requires c κs = omega (arith, sizes (c .before .before .before .loop .inv), bound-is (c .before))
-
-enum-told : tie.Need-enum-told Inv-loop μ-loop
-enum-told c = search needs
-
-enum-known-opening : tie.Need-enum-known-opening Inv-loop μ-loop
-enum-known-opening c = search needs
 
 -- there is room for the end of a block
 block-fits : (c : tie.After-opening Inv-loop μ-loop) → let l = c .before .before .before .before .before .before in let a = l .before .before .before .args in
@@ -86,9 +77,6 @@ slice-write-ends c = omega (arith, block-fits (c .before))
 add-depth : tie.Need-add-depth Inv-loop μ-loop
 add-depth c = omega (arith, block-fits (c .before))
 
-enum-known-opening-2 : tie.Need-enum-known-opening-2 Inv-loop μ-loop
-enum-known-opening-2 c = search needs
-
 cast-ends-2 : tie.Need-cast-ends-2 Inv-loop μ-loop
 cast-ends-2 c = omega (arith, loop-fits (c .before))
 
@@ -104,9 +92,6 @@ add-depth-2 c = omega (arith, loop-fits (c .before))
 add-loops : tie.Need-add-loops Inv-loop μ-loop
 add-loops c = omega (arith, loop-fits (c .before), sizes (c .before .before .before .before .before .before .before .loop .inv))
 
-enum-told-2 : tie.Need-enum-told-2 Inv-loop μ-loop
-enum-told-2 c = search needs
-
 same-length : tie.Need-same-length Inv-loop μ-loop
 same-length c = c .before .before .before .before .before .before .loop .inv .size
 
@@ -117,18 +102,6 @@ returns c =
     let s = j .before .before .before .before .before in
     no-row (opAt (s .args .ops .now)) (s .args .from) (s .args .to) (s .pre .0)
     (crossed-next (j .before .before .loop .inv) (bound-is j) (o .before .if2 .taken) (sym (c .enum-told2 .given .1) ∙ o .opens-at .ensures))
-
-mul-if3 : tie.Need-mul-if3 Inv-loop μ-loop
-mul-if3 c = omega arith
-
-shared-slice-read-if3 : tie.Need-shared-slice-read-if3 Inv-loop μ-loop
-shared-slice-read-if3 c = omega arith
-
-mul-ends-3 : tie.Need-mul-ends-3 Inv-loop μ-loop
-mul-ends-3 c = omega arith
-
-shared-slice-read-ends : tie.Need-shared-slice-read-ends Inv-loop μ-loop
-shared-slice-read-ends c = omega arith
 
 -- where a part ends
 at-end : (c : tie.Joined1 Inv-loop μ-loop) → let l = c .before .before in let a = l .before .before .before .args in
@@ -160,22 +133,10 @@ sub-depth c =
     let e = c .before .before in
     some-block _ (at-end (e .before) (e .if2 .left))
 
-mul-if4 : tie.Need-mul-if4 Inv-loop μ-loop
-mul-if4 c = omega arith
-
-shared-slice-read-if4 : tie.Need-shared-slice-read-if4 Inv-loop μ-loop
-shared-slice-read-if4 c = omega arith
-
 sub-loops : tie.Need-sub-loops Inv-loop μ-loop
 sub-loops c =
     let e = c .before .before .before .before in
     some-loop _ (at-end (e .before) (e .if2 .left)) (c .if4 .taken)
-
-add-i : tie.Need-add-i Inv-loop μ-loop
-add-i c = omega arith
-
-loop-less : tie.Need-loop-less Inv-loop μ-loop
-loop-less c = omega arith
 
 loop-again : tie.Need-loop-again Inv-loop μ-loop
 loop-again c =
@@ -204,43 +165,8 @@ returns-2 c = row-there _ _ _ (all-closed (c .before .loop .inv) (c .loop-test .
 pub row-within-spec : {M : Type 1} → statement M
 row-within-spec =
     tie.close
-    (tie.spec
-    Inv-loop
-    μ-loop
-    loop-holds
-    sub-bound
-    mul-bound
-    slice-read-bound
-    cast-bound
-    opens-at-requires
-    enum-told
-    enum-known-opening
-    cast-ends
-    mul-ends
-    slice-write-ends
-    add-depth
-    enum-known-opening-2
-    cast-ends-2
-    mul-ends-2
-    slice-write-ends-2
-    add-depth-2
-    add-loops
-    enum-told-2
-    same-length
-    returns
-    mul-if3
-    shared-slice-read-if3
-    mul-ends-3
-    shared-slice-read-ends
-    sub-ends
-    mul-ends-4
-    slice-write-ends-3
-    sub-depth
-    mul-if4
-    shared-slice-read-if4
-    sub-loops
-    add-i
-    loop-less
-    loop-again
-    same-length-2
+    (tie.spec Inv-loop μ-loop loop-holds (λ c. omega arith) mul-bound slice-read-bound cast-bound opens-at-requires (λ c. search needs)
+    (λ c. search needs) cast-ends mul-ends slice-write-ends add-depth (λ c. search needs) cast-ends-2 mul-ends-2 slice-write-ends-2 add-depth-2
+    add-loops (λ c. search needs) same-length returns (λ c. omega arith) (λ c. omega arith) (λ c. omega arith) (λ c. omega arith) sub-ends mul-ends-4
+    slice-write-ends-3 sub-depth (λ c. omega arith) (λ c. omega arith) sub-loops (λ c. omega arith) (λ c. omega arith) loop-again same-length-2
     returns-2)

@@ -15,23 +15,9 @@ Inv-loop ops n i₀ i =
 abbrev μ-loop : tie.MeasureT-loop
 μ-loop ops n i₀ i = length ops - i
 
--- src/range.rt:85:5
 loop-holds : tie.Need-loop-holds Inv-loop μ-loop
 loop-holds c = (refl, omega arith, refl)
 
--- src/range.rt:86:30
-mul-is-backward : tie.Need-mul-is-backward Inv-loop μ-loop
-mul-is-backward c = omega arith
-
--- src/range.rt:86:30
-shared-slice-read-is-backward : tie.Need-shared-slice-read-is-backward Inv-loop μ-loop
-shared-slice-read-is-backward c = omega arith
-
--- src/range.rt:86:12
-is-backward-requires : tie.Need-is-backward-requires Inv-loop μ-loop
-is-backward-requires c κs = tt
-
--- src/range.rt:87:13
 returns : tie.Need-returns Inv-loop μ-loop
 returns c =
     let b = c .before in
@@ -39,15 +25,6 @@ returns c =
     let n = l .before .loop .inv in
     sym (n .2 ∙ backward-here _ _ _ (omega arith) (sym (b .is-backward .ensures) ∙ c .if1 .taken))
 
--- src/range.rt:89:9
-add-i : tie.Need-add-i Inv-loop μ-loop
-add-i c = omega arith
-
--- src/range.rt:85:5
-loop-less : tie.Need-loop-less Inv-loop μ-loop
-loop-less c = omega arith
-
--- src/range.rt:85:5
 loop-again : tie.Need-loop-again Inv-loop μ-loop
 loop-again c =
     let b = c .before in
@@ -55,22 +32,11 @@ loop-again c =
     let n = l .before .loop .inv in
     (refl, omega arith, n .2 ∙ backward-later _ _ _ (omega arith) (sym (b .is-backward .ensures) ∙ c .if1 .left))
 
--- src/range.rt:80:1
 returns-2 : tie.Need-returns-2 Inv-loop μ-loop
 returns-2 c = sym (c .before .loop .inv .2 ∙ backward-none _ _ _ (omega arith))
 
 pub check-forward-control-flow-targets-spec : {M : Type 1} → statement M
 check-forward-control-flow-targets-spec =
     tie.close
-    (tie.spec
-    Inv-loop
-    μ-loop
-    loop-holds
-    mul-is-backward
-    shared-slice-read-is-backward
-    is-backward-requires
-    returns
-    add-i
-    loop-less
-    loop-again
+    (tie.spec Inv-loop μ-loop loop-holds (λ c. omega arith) (λ c. omega arith) (λ c κs. tt) returns (λ c. omega arith) (λ c. omega arith) loop-again
     returns-2)

@@ -10,7 +10,6 @@ use Rattle.rules.specs.Rows.{hasTarget}
 use Rattle.rows.proofs.range.is_backward.Statement.{statement}
 use Rattle.rows.proofs.range.is_backward.Tie as tie
 
--- src/range.rt:73:9
 returns : tie.Need-returns
 returns c =
     let k = kind (c .before .before .before .args .w) in
@@ -25,17 +24,13 @@ has-target c =
     (⊎-elim (λ w. simp (not-false (eqb k 22) (w .1 .left), or-true)) (λ w. simp (eq-eqb k 21 (w .left))))
     (c .if1 .came)
 
--- src/range.rt:75:18
-cast-target : tie.Need-cast-target
-cast-target c = search needs
-
--- src/range.rt:68:1
 returns-2 : tie.Need-returns-2
 returns-2 c = simp (has-target (c .before), le-leb _ _ (c .if4 .taken))
 
--- src/range.rt:68:1
 returns-3 : tie.Need-returns-3
 returns-3 c = simp (has-target (c .before), lt-leb _ _ (c .if4 .left))
 
 pub is-backward-spec : {M : Type 1} → statement M
-is-backward-spec = tie.close (tie.spec returns cast-target returns-2 returns-3)
+is-backward-spec =
+    tie.close
+    (tie.spec returns (λ c. search needs) returns-2 returns-3)

@@ -12,46 +12,22 @@ use Rattle.rows.proofs.RangeLaws.{no-stream, no-reset, positions}
 use Rattle.rows.proofs.range.range_of.Statement.{statement}
 use Rattle.rows.proofs.range.range_of.Tie as tie
 
--- src/range.rt:45:9
 returns : tie.Need-returns
 returns c = simp (ne-eqb _ 2 (c .if1 .taken))
 
--- src/range.rt:50:9
-first-of-requires : tie.Need-first-of-requires
-first-of-requires c κs = search needs
-
--- src/range.rt:51:19
-enum-known-stream : tie.Need-enum-known-stream
-enum-known-stream c = search needs
-
--- src/range.rt:52:9
 enum-told : tie.Need-enum-told
 enum-told c = search needs
 
--- src/range.rt:52:9
 returns-2 : tie.Need-returns-2
 returns-2 c =
     let f = c .before .before in
     no-stream _ _ (f .before .if1 .left) (rw (c .enum-told .given .1) at (f .first-of .ensures))
-
--- src/range.rt:54:9
-first-of-requires-2 : tie.Need-first-of-requires-2
-first-of-requires-2 c κs = search needs
-
--- src/range.rt:55:19
-enum-known-reset : tie.Need-enum-known-reset
-enum-known-reset c = search needs
-
--- src/range.rt:56:9
-enum-told-2 : tie.Need-enum-told-2
-enum-told-2 c = search needs
 
 -- the first Stream
 stream : (c : tie.After-first-of2) → let s = c .before .before in
     found (s .stream .given .0 .0) ≡ firstOf 28 (s .before .before .before .before .before .args .ops .now) 0
 stream c = rw (c .before .before .stream .given .1) at (c .before .before .before .before .first-of .ensures)
 
--- src/range.rt:56:9
 returns-3 : tie.Need-returns-3
 returns-3 c =
     let f = c .before .before in
@@ -65,26 +41,18 @@ stream-within c =
     let s = f .before .before in
     omega (arith, first-within 28 (s .before .before .before .before .before .args .ops .now) 0 (s .stream .given .0 .0) (sym (stream f)))
 
--- src/range.rt:60:19
 add-t10 : tie.Need-add-t10
 add-t10 c = omega (arith, stream-within c)
 
--- src/range.rt:61:17
 add-t11 : tie.Need-add-t11
 add-t11 c = omega (arith, stream-within c)
 
--- src/range.rt:59:9
 returns-4 : tie.Need-returns-4
 returns-4 c =
     let r = c .before .before in
     let f = r .before .before in
     positions _ _ (f .before .before .before .before .before .if1 .left) _ (stream f) _ _ (rw (r .reset .given .1) at (f .first-of2 .ensures)) (omega arith)
 
--- src/range.rt:64:35
-add-t13 : tie.Need-add-t13
-add-t13 c = search needs
-
--- src/range.rt:41:1
 returns-5 : tie.Need-returns-5
 returns-5 c =
     let r = c .before .before in
@@ -94,18 +62,5 @@ returns-5 c =
 pub range-of-spec : {M : Type 1} → statement M
 range-of-spec =
     tie.close
-    (tie.spec
-    returns
-    first-of-requires
-    enum-known-stream
-    enum-told
-    returns-2
-    first-of-requires-2
-    enum-known-reset
-    enum-told-2
-    returns-3
-    add-t10
-    add-t11
-    returns-4
-    add-t13
-    returns-5)
+    (tie.spec returns (λ c κs. search needs) (λ c. search needs) enum-told returns-2 (λ c κs. search needs) (λ c. search needs) (λ c. search needs)
+    returns-3 add-t10 add-t11 returns-4 (λ c. search needs) returns-5)

@@ -9,15 +9,9 @@ use borrow.Author.Needs.{needs}
 use Rattle.sheets.proofs.module.sheet_of.Statement.{statement}
 use Rattle.sheets.proofs.module.sheet_of.Tie as tie
 
--- src/module.rt:83:9
-chunk-places-requires : tie.Need-chunk-places-requires
-chunk-places-requires c κs = search needs
-
--- src/module.rt:87:31
 slice-aggregate-call-order : tie.Need-slice-aggregate-call-order
 slice-aggregate-call-order c = search needs
 
--- src/module.rt:87:40
 slice-aggregate-call-order-2 : tie.Need-slice-aggregate-call-order-2
 slice-aggregate-call-order-2 c = search needs
 
@@ -28,7 +22,6 @@ placed c = c .before .before .before .before
 abbrev words : (c : tie.After-chunk-places) → Readable (c .before .before .args .words .now) (c .before .before .args .n)
 words c = c .before .before .pre
 
--- src/module.rt:87:9
 call-order-requires : tie.Need-call-order-requires
 call-order-requires c κs =
     let p = placed c in
@@ -40,18 +33,12 @@ call-order-requires c κs =
       extras-room = omega (arith, few-chunks (words p), slice-aggregate-call-order-2 c);
     }
 
--- src/module.rt:89:9
-refusal-requires : tie.Need-refusal-requires
-refusal-requires c κs = search needs
-
--- src/module.rt:89:9
 returns : tie.Need-returns
 returns c =
     let o = c .before .before .before in
     let p = placed (o .before) in
     c .refusal .ensures (p .before .before .args .n) ∙ ring-sheet (words p) _ (o .call-order .ensures) (c .before .if1 .taken)
 
--- src/module.rt:92:5
 sheet-lines-requires : tie.Need-sheet-lines-requires
 sheet-lines-requires c κs =
     let e = c .before in
@@ -59,7 +46,6 @@ sheet-lines-requires c κs =
     let p = placed (o .before) in
     ordering (words p) _ (o .call-order .ensures) (e .if1 .left) _ (p .chunk-places .ensures)
 
--- src/module.rt:79:1
 returns-2 : tie.Need-returns-2
 returns-2 c =
     let e = c .before .before in
@@ -69,12 +55,5 @@ returns-2 c =
 pub sheet-of-spec : {M : Type 1} → statement M
 sheet-of-spec =
     tie.close
-    (tie.spec
-    chunk-places-requires
-    slice-aggregate-call-order
-    slice-aggregate-call-order-2
-    call-order-requires
-    refusal-requires
-    returns
-    sheet-lines-requires
-    returns-2)
+    (tie.spec (λ c κs. search needs) slice-aggregate-call-order slice-aggregate-call-order-2 call-order-requires (λ c κs. search needs) returns
+    sheet-lines-requires returns-2)

@@ -5,20 +5,11 @@ use borrow.Author.Needs.{needs}
 use Rattle.stack.proofs.chunk.compute_chunk_wcmu.Statement.{statement}
 use Rattle.stack.proofs.chunk.compute_chunk_wcmu.Tie as tie
 
-wcmu-region-at-requires : tie.Need-wcmu-region-at-requires
-wcmu-region-at-requires c κs = search needs
-
-enum-known-walk : tie.Need-enum-known-walk
-enum-known-walk c = search needs
-
 stack-of-requires : tie.Need-stack-of-requires
 stack-of-requires c κs =
     let w = c .before .before .before in
     let s = w .before .before .before .before in
     stack-fits (s .args .constants .now) (s .args .callees .now) (s .pre) _ (w .wcmu-region-at .ensures) (c .before .walk .given .1)
-
-enum-known-walk-2 : tie.Need-enum-known-walk-2
-enum-known-walk-2 c = search needs
 
 returns : tie.Need-returns
 returns c =
@@ -36,10 +27,4 @@ returns-2 c =
 pub compute-chunk-wcmu-spec : {M : Type 1} → statement M
 compute-chunk-wcmu-spec =
     tie.close
-    (tie.spec
-    wcmu-region-at-requires
-    enum-known-walk
-    stack-of-requires
-    enum-known-walk-2
-    returns
-    returns-2)
+    (tie.spec (λ c κs. search needs) (λ c. search needs) stack-of-requires (λ c. search needs) returns returns-2)

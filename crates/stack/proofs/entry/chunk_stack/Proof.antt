@@ -14,17 +14,8 @@ row-is : (c : tie.After-known-told) → let r = c .before .before .before in
     ok (rangeIs (c .before .row .given .0 .0)) ≡ rangeRow (r .before .before .before .before .args .p .mode) (r .before .ops-of .result .now)
 row-is c = sym (ap rowResult (c .before .row .given .1)) ∙ c .before .before .before .chunk-row .ensures
 
-ops-of-requires : tie.Need-ops-of-requires
-ops-of-requires c κs = search needs
-
 chunk-row-requires : tie.Need-chunk-row-requires
 chunk-row-requires c κs = let f = c .before .before .before .pre in ops-short (f .parts) (f .short) (c .ops-of .ensures)
-
-enum-known-row : tie.Need-enum-known-row
-enum-known-row c = search needs
-
-enum-known-row-2 : tie.Need-enum-known-row-2
-enum-known-row-2 c = search needs
 
 returns : tie.Need-returns
 returns c k parts =
@@ -32,9 +23,6 @@ returns c k parts =
     let o = r .before in
     let s = o .before .before .before in
     row-told (s .pre .short) (o .ops-of .ensures) (s .args .callees .now) k parts _ _ (sym (ap rowResult (c .before .row2 .given .1)) ∙ r .chunk-row .ensures)
-
-constants-of-requires : tie.Need-constants-of-requires
-constants-of-requires c κs = search needs
 
 compute-chunk-wcmu-requires : tie.Need-compute-chunk-wcmu-requires
 compute-chunk-wcmu-requires c κs =
@@ -52,12 +40,5 @@ returns-2 c k parts =
 pub chunk-stack-spec : {M : Type 1} → statement M
 chunk-stack-spec =
     tie.close
-    (tie.spec
-    ops-of-requires
-    chunk-row-requires
-    enum-known-row
-    enum-known-row-2
-    returns
-    constants-of-requires
-    compute-chunk-wcmu-requires
-    returns-2)
+    (tie.spec (λ c κs. search needs) chunk-row-requires (λ c. search needs) (λ c. search needs) returns (λ c κs. search needs)
+    compute-chunk-wcmu-requires returns-2)

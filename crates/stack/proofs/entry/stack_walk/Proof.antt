@@ -19,28 +19,13 @@ there c = lookup-found _ _ _ (sym (ap lookupOutcome (c .before .found2 .given .1
 abbrev lent : tie.After-known-told2 → List ℕ
 lent c = c .before .before .before .before .before .before .args .callees .now
 
-find-chunk-requires : tie.Need-find-chunk-requires
-find-chunk-requires c κs = search needs
-
-enum-known-found : tie.Need-enum-known-found
-enum-known-found c = search needs
-
 returns : tie.Need-returns
 returns c =
     let a = c .before .before .before .before .before .before .args in
     lookup-told (a .words .now) (a .c) (a .callees .now) _ _ _ (sym (ap lookupOutcome (c .before .found .given .1)) ∙ c .before .before .before .find-chunk .ensures)
 
-enum-known-found-2 : tie.Need-enum-known-found-2
-enum-known-found-2 c = search needs
-
 chunk-stack-requires : tie.Need-chunk-stack-requires
 chunk-stack-requires c κs = let h = there c in record { chunk = h .chunk; parts = h .parts; fits = h .fits; short = h .short }
-
-enum-known-stack : tie.Need-enum-known-stack
-enum-known-stack c = search needs
-
-enum-known-stack-2 : tie.Need-enum-known-stack-2
-enum-known-stack-2 c = search needs
 
 returns-2 : tie.Need-returns-2
 returns-2 c =
@@ -57,13 +42,5 @@ returns-3 c =
 pub stack-walk-spec : {M : Type 1} → statement M
 stack-walk-spec =
     tie.close
-    (tie.spec
-    find-chunk-requires
-    enum-known-found
-    returns
-    enum-known-found-2
-    chunk-stack-requires
-    enum-known-stack
-    enum-known-stack-2
-    returns-2
-    returns-3)
+    (tie.spec (λ c κs. search needs) (λ c. search needs) returns (λ c. search needs) chunk-stack-requires (λ c. search needs) (λ c. search needs)
+    returns-2 returns-3)

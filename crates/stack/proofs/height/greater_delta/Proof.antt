@@ -10,15 +10,6 @@ use Rattle.stack.proofs.height.greater_delta.Tie as tie
 enum-told : tie.Need-enum-told
 enum-told c = search needs
 
-enum-known-a : tie.Need-enum-known-a
-enum-known-a c = search needs
-
-enum-told-2 : tie.Need-enum-told-2
-enum-told-2 c = search needs
-
-enum-known-b : tie.Need-enum-known-b
-enum-known-b c = search needs
-
 returns : tie.Need-returns
 returns c = let a = c .before .before .args in greater-first (deltaOf (a .a)) (deltaOf (a .b)) (ap deltaOf (c .enum-told .given .1))
 
@@ -44,12 +35,4 @@ returns-4 c =
 pub greater-delta-spec : {M : Type 1} → statement M
 greater-delta-spec =
     tie.close
-    (tie.spec
-    enum-told
-    enum-known-a
-    enum-told-2
-    enum-known-b
-    returns
-    returns-2
-    returns-3
-    returns-4)
+    (tie.spec enum-told (λ c. search needs) (λ c. search needs) (λ c. search needs) returns returns-2 returns-3 returns-4)

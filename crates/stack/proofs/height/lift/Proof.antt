@@ -4,14 +4,10 @@ use borrow.Author.Needs.{needs}
 use Rattle.stack.proofs.height.lift.Statement.{statement}
 use Rattle.stack.proofs.height.lift.Tie as tie
 
-lift-peak-requires : tie.Need-lift-peak-requires
-lift-peak-requires c κs = search needs
-
-lift-delta-requires : tie.Need-lift-delta-requires
-lift-delta-requires c κs = search needs
-
 returns : tie.Need-returns
 returns c = rw (c .before .lift-peak .ensures, c .lift-delta .ensures)
 
 pub lift-spec : {M : Type 1} → statement M
-lift-spec = tie.close (tie.spec lift-peak-requires lift-delta-requires returns)
+lift-spec =
+    tie.close
+    (tie.spec (λ c κs. search needs) (λ c κs. search needs) returns)

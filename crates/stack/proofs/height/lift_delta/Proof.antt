@@ -7,17 +7,11 @@ use borrow.Author.Needs.{needs}
 use Rattle.stack.proofs.height.lift_delta.Statement.{statement}
 use Rattle.stack.proofs.height.lift_delta.Tie as tie
 
-enum-known-d : tie.Need-enum-known-d
-enum-known-d c = search needs
-
 add-t5 : tie.Need-add-t5
 add-t5 c =
     let d = c .before .before .before in
     let s = d .before .before in
     delta-fits (s .args .l) (deltaOf (s .args .d)) _ (s .pre .0) (s .pre .1) (ap deltaOf (d .d .given .1))
-
-enum-told : tie.Need-enum-told
-enum-told c = search needs
 
 returns : tie.Need-returns
 returns c =
@@ -25,8 +19,7 @@ returns c =
     let s = d .before .before in
     delta-moved (s .args .l) (deltaOf (s .args .d)) _ (s .pre .0) (s .pre .1) (ap deltaOf (d .d .given .1))
 
-returns-2 : tie.Need-returns-2
-returns-2 c = search needs
-
 pub lift-delta-spec : {M : Type 1} → statement M
-lift-delta-spec = tie.close (tie.spec enum-known-d add-t5 enum-told returns returns-2)
+lift-delta-spec =
+    tie.close
+    (tie.spec (λ c. search needs) add-t5 (λ c. search needs) returns (λ c. search needs))

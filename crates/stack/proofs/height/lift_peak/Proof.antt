@@ -26,4 +26,6 @@ returns-2 c =
     peak-lifted (s .args .l) _ (s .pre .0) (s .pre .1) (e .if1 .left)
 
 pub lift-peak-spec : {M : Type 1} → statement M
-lift-peak-spec = tie.close (tie.spec returns cast-t4 add-t5 returns-2)
+lift-peak-spec =
+    tie.close
+    (tie.spec returns cast-t4 add-t5 returns-2)

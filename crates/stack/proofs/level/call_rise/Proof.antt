@@ -10,21 +10,6 @@ use borrow.Author.Needs.{needs}
 use Rattle.stack.proofs.level.call_rise.Statement.{statement}
 use Rattle.stack.proofs.level.call_rise.Tie as tie
 
-cast-bytes-at : tie.Need-cast-bytes-at
-cast-bytes-at c = search needs
-
-bytes-at-requires : tie.Need-bytes-at-requires
-bytes-at-requires c κs = search needs
-
-slots-in-requires : tie.Need-slots-in-requires
-slots-in-requires c κs = search needs
-
-cast-rise : tie.Need-cast-rise
-cast-rise c = search needs
-
-cast-rise-2 : tie.Need-cast-rise-2
-cast-rise-2 c = search needs
-
 -- the callee's slots
 slots : (c : tie.After-slots-in) → let a = c .before .before .before .args in
     (c .slots-in .result .0 ≤ 134217727) × (c .slots-in .result .0 ≡ calleeSlots (a .callees .now) (fieldA (a .w)))
@@ -54,12 +39,4 @@ returns-2 c =
 pub call-rise-spec : {M : Type 1} → statement M
 call-rise-spec =
     tie.close
-    (tie.spec
-    cast-bytes-at
-    bytes-at-requires
-    slots-in-requires
-    cast-rise
-    cast-rise-2
-    sub-rise
-    returns
-    returns-2)
+    (tie.spec (λ c. search needs) (λ c κs. search needs) (λ c κs. search needs) (λ c. search needs) (λ c. search needs) sub-rise returns returns-2)

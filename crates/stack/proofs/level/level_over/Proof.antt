@@ -15,9 +15,6 @@ add-offset c =
     let s = c .before .before .before .before .before .before .before .before in
     offset-fits (s .args .l) (s .args .e) (s .pre .0) (s .pre .1)
 
-cast-if1 : tie.Need-cast-if1
-cast-if1 c = search needs
-
 cast-t9 : tie.Need-cast-t9
 cast-t9 c =
     let s = c .before .before .before .before .before .before .before .before .before in
@@ -34,4 +31,6 @@ returns-2 c =
     over-same (s .args .l) (s .args .e) (s .pre .0) (s .pre .1) (c .if1 .left)
 
 pub level-over-spec : {M : Type 1} → statement M
-level-over-spec = tie.close (tie.spec add-during add-offset cast-if1 cast-t9 returns returns-2)
+level-over-spec =
+    tie.close
+    (tie.spec add-during add-offset (λ c. search needs) cast-t9 returns returns-2)

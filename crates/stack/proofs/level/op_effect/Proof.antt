@@ -5,31 +5,10 @@ use borrow.Author.Needs.{needs}
 use Rattle.stack.proofs.level.op_effect.Statement.{statement}
 use Rattle.stack.proofs.level.op_effect.Tie as tie
 
-mul-w : tie.Need-mul-w
-mul-w c = search needs
-
-shared-slice-read-w : tie.Need-shared-slice-read-w
-shared-slice-read-w c = search needs
-
-stack-growth-requires : tie.Need-stack-growth-requires
-stack-growth-requires c κs = search needs
-
-cast-growth : tie.Need-cast-growth
-cast-growth c = search needs
-
-stack-shrink-requires : tie.Need-stack-shrink-requires
-stack-shrink-requires c κs = search needs
-
-cast-shift : tie.Need-cast-shift
-cast-shift c = search needs
-
 sub-shift : tie.Need-sub-shift
 sub-shift c =
     let s = c .before .before .before .before .before in
     shift-fits (s .args .ops .now) (s .args .callees .now) (s .args .i) _ _ (s .pre) (c .before .stack-growth .ensures) (c .stack-shrink .ensures)
-
-call-rise-requires : tie.Need-call-rise-requires
-call-rise-requires c κs = search needs
 
 returns : tie.Need-returns
 returns c =
@@ -49,14 +28,5 @@ returns-2 c =
 pub op-effect-spec : {M : Type 1} → statement M
 op-effect-spec =
     tie.close
-    (tie.spec
-    mul-w
-    shared-slice-read-w
-    stack-growth-requires
-    cast-growth
-    stack-shrink-requires
-    cast-shift
-    sub-shift
-    call-rise-requires
-    returns
-    returns-2)
+    (tie.spec (λ c. search needs) (λ c. search needs) (λ c κs. search needs) (λ c. search needs) (λ c κs. search needs) (λ c. search needs) sub-shift
+    (λ c κs. search needs) returns returns-2)

@@ -8,9 +8,6 @@ use borrow.Author.Needs.{needs}
 use Rattle.stack.proofs.level.raised.Statement.{statement}
 use Rattle.stack.proofs.level.raised.Tie as tie
 
-greater-peak-requires : tie.Need-greater-peak-requires
-greater-peak-requires c κs = search needs
-
 returns : tie.Need-returns
 returns c =
     let l = c .before .before .before .args .l in
@@ -18,4 +15,6 @@ returns c =
     (ap (λ (n : ℕ). record { offset = l .offset; peak = record { 0 = n }; broken = l .broken }) (c .before .greater-peak .ensures))
 
 pub raised-spec : {M : Type 1} → statement M
-raised-spec = tie.close (tie.spec greater-peak-requires returns)
+raised-spec =
+    tie.close
+    (tie.spec (λ c κs. search needs) returns)

@@ -1,15 +1,16 @@
 -- The six functions of the stack walk meet their contracts. The measure is the nesting left, and the order of the calls at one level.
 -- Assumes nothing.
-use mathlib.Core.Logic.{inl, inr, ⊎-elim}
+use mathlib.Core.Path.{refl}
 use native.Mathlib.Omega.{arith}
 use borrow.Author.Needs.{needs}
-use borrow.Author.Tests.{eqb-true, eqb-false}
-use Rattle.stack.proofs.RowLaws.{Rest, rest-start, rest-fits, rest-end, rest-forward, rest-goes, rest-ends, rest-refused}
+use Rattle.rows.specs.Opens.{StepFits}
+use Rattle.rows.proofs.FitLaws.{if-within, if-arm, else-within, then-arm, else-arm, loop-within, loop-body}
+use Rattle.stack.specs.Steps.{StepMeans}
+use Rattle.stack.proofs.RowLaws.{Rest, rest-start, rest-small, rest-fits, rest-end, rest-forward, rest-goes, rest-ends, rest-refused}
 use Rattle.stack.proofs.RowLaws.{part-deepest, part-refused, lift-fits, part-done}
-use Rattle.stack.proofs.BlockLaws.{if-within, if-arm, if-refused, if-joins}
-use Rattle.stack.proofs.BlockLaws.{else-within, then-arm, else-arm, else-refused, else-refused-second, else-joins}
-use Rattle.stack.proofs.BlockLaws.{loop-within, loop-body, loop-refused, loop-once, loop-uncounted, loop-goes}
-use Rattle.stack.proofs.StepLaws.{over-fits, if-reach, loop-reach, Over, over, if-fits, else-fits, loop-fits}
+use Rattle.stack.proofs.BlockLaws.{block-part, if-refused, if-joins, else-refused, else-refused-second, else-joins}
+use Rattle.stack.proofs.BlockLaws.{loop-refused, loop-once, loop-uncounted, loop-goes}
+use Rattle.stack.proofs.StepLaws.{Over, over-fits, over, behind-small}
 use Rattle.stack.proofs.StepLaws.{step-if, step-else, step-loop, step-ends, step-break, step-break-if, step-plain}
 use Prim.Native.Nat.{ℕ, _<_, _+_, _-_, _*_}
 use borrow.Fn.Kinds.{In, Out}
@@ -33,6 +34,7 @@ use Rattle.stack.proofs.region.wcmu_subregion.Reads as wcmu-subregion
 use Rattle.stack.proofs.region.wcmu_subregion.Kinds as wcmu-subregion-kinds
 use Rattle.stack.proofs.region.+wcmu_else+wcmu_if+wcmu_loop+wcmu_region_at+wcmu_step+wcmu_subregion.Lts-wcmu_subregion as wcmu-subregion-lts
 use Rattle.count.proofs.bound.extract_loop_iteration_bound.Reads as extract-loop-iteration-bound-reads
+use Rattle.rows.proofs.block.block_at.Reads as block-at-reads
 use Rattle.stack.proofs.height.height_at.Reads as height-at-reads
 use Rattle.stack.proofs.height.lift.Reads as lift-reads
 use Rattle.stack.proofs.level.level_over.Reads as level-over-reads
@@ -53,16 +55,16 @@ abbrev μ-wcmu-else : Measures 3 wcmu-else-kinds.ps ℕ
 μ-wcmu-else κs a = 4 * a .1 .1 .1 .1 .1 .1 .0 + 1
 
 abbrev μ-wcmu-if : Measures 3 wcmu-if-kinds.ps ℕ
-μ-wcmu-if κs a = 4 * a .1 .1 .1 .1 .1 .1 .0 + 1
+μ-wcmu-if κs a = 4 * a .1 .1 .1 .1 .1 .0 + 1
 
 abbrev μ-wcmu-loop : Measures 3 wcmu-loop-kinds.ps ℕ
-μ-wcmu-loop κs a = 4 * a .1 .1 .1 .1 .1 .1 .0 + 1
+μ-wcmu-loop κs a = 4 * a .1 .1 .1 .1 .1 .0 + 1
 
 abbrev μ-wcmu-region-at : Measures 3 wcmu-region-at-kinds.ps ℕ
 μ-wcmu-region-at κs a = 4 * a .1 .1 .1 .1 .1 .0 + 3
 
 abbrev μ-wcmu-step : Measures 3 wcmu-step-kinds.ps ℕ
-μ-wcmu-step κs a = 4 * a .1 .1 .1 .1 .1 .0 + 2
+μ-wcmu-step κs a = 4 * a .1 .1 .1 .1 .0 + 2
 
 abbrev μ-wcmu-subregion : Measures 3 wcmu-subregion-kinds.ps ℕ
 μ-wcmu-subregion κs a = 4 * a .1 .1 .1 .1 .1 .0
@@ -133,74 +135,50 @@ wcmu-else-calls t = (wcmu-subregion-below t, wcmu-subregion.Post, marked-reads.A
 abbrev wcmu-else-need : (wcmu-else-lts.Claims → In 3 wcmu-else-kinds.ps → Out 3 wcmu-else-kinds.ps wcmu-else-kinds.r → Type 0) → Type 0
 wcmu-else-need N = (t : ℕ) → N (wcmu-else-calls t) (wcmu-else-at t) wcmu-else.Post
 
-wcmu-else-mul-f : wcmu-else-need wcmu-else-lts.Need-mul-f
-wcmu-else-mul-f t c = omega arith
-
-wcmu-else-shared-slice-read-f : wcmu-else-need wcmu-else-lts.Need-shared-slice-read-f
-wcmu-else-shared-slice-read-f t c = omega (arith, else-within (c .before .before .before .before .pre .1))
-
-wcmu-else-cast-f : wcmu-else-need wcmu-else-lts.Need-cast-f
-wcmu-else-cast-f t c = omega arith
-
 wcmu-else-add-wcmu-subregion : wcmu-else-need wcmu-else-lts.Need-add-wcmu-subregion
-wcmu-else-add-wcmu-subregion t c = omega arith
+wcmu-else-add-wcmu-subregion t c = omega (arith, else-within (c .before .before .before .pre .1 .1 .1))
 
 wcmu-else-wcmu-subregion-requires : wcmu-else-need wcmu-else-lts.Need-wcmu-subregion-requires
-wcmu-else-wcmu-subregion-requires t c κs = (omega arith, then-arm (c .before .before .before .before .pre .1))
-
-wcmu-else-enum-known-first : wcmu-else-need wcmu-else-lts.Need-enum-known-first
-wcmu-else-enum-known-first t c = search needs
-
-wcmu-else-enum-known-first-2 : wcmu-else-need wcmu-else-lts.Need-enum-known-first-2
-wcmu-else-enum-known-first-2 t c = search needs
+wcmu-else-wcmu-subregion-requires t c κs =
+    let p = c .before .before .before .pre .1 in
+    (omega arith, block-part (then-arm (p .1 .1)) (p .0) refl (omega arith) (omega (arith, else-within (p .1 .1))))
 
 wcmu-else-returns : wcmu-else-need wcmu-else-lts.Need-returns
-wcmu-else-returns t c =
+wcmu-else-returns t c to h =
     let f = c .before in
     let w = f .before .before in
-    let s = w .before .before .before .before .before in
-    else-refused (s .pre .1) (s .args .constants .now) (s .args .callees .now) (s .args .left) _ (w .wcmu-subregion .ensures) (f .first2 .given .1)
-
-wcmu-else-marked-requires : wcmu-else-need wcmu-else-lts.Need-marked-requires
-wcmu-else-marked-requires t c κs = tt
-
-wcmu-else-add-wcmu-subregion-2 : wcmu-else-need wcmu-else-lts.Need-add-wcmu-subregion-2
-wcmu-else-add-wcmu-subregion-2 t c = omega arith
+    let a = w .before .before .before .before .args in
+    else-refused h (a .behind) (a .constants .now) (a .callees .now) (a .left) _ (w .wcmu-subregion .ensures) (f .first2 .given .1)
 
 wcmu-else-wcmu-subregion-requires-2 : wcmu-else-need wcmu-else-lts.Need-wcmu-subregion-requires-2
 wcmu-else-wcmu-subregion-requires-2 t c κs =
-    let w = c .before .before .before .before in
-    (omega arith, else-arm (w .before .before .before .before .before .pre .1) _ (c .marked .ensures))
-
-wcmu-else-enum-known-second : wcmu-else-need wcmu-else-lts.Need-enum-known-second
-wcmu-else-enum-known-second t c = search needs
-
-wcmu-else-enum-known-second-2 : wcmu-else-need wcmu-else-lts.Need-enum-known-second-2
-wcmu-else-enum-known-second-2 t c = search needs
+    let p = c .before .before .before .before .before .before .before .before .pre .1 in
+    let z = else-within (p .1 .1) in
+    (omega arith, block-part (else-arm (p .1 .1)) (p .0) (c .marked .ensures) (omega arith) (omega arith))
 
 wcmu-else-returns-2 : wcmu-else-need wcmu-else-lts.Need-returns-2
-wcmu-else-returns-2 t c =
+wcmu-else-returns-2 t c to h =
     let f = c .before in
     let v = f .before .before in
     let g = v .before .before .before in
     let w = g .before .before in
-    let s = w .before .before .before .before .before in
-    else-refused-second (s .pre .1) (s .args .constants .now) (s .args .callees .now) (s .args .left) _ (w .wcmu-subregion .ensures) (g .first .given .1)
+    let a = w .before .before .before .before .args in
+    else-refused-second h (a .behind) (a .constants .now) (a .callees .now) (a .left) _ (w .wcmu-subregion .ensures) (g .first .given .1)
     (v .before .marked .ensures) _ (v .wcmu-subregion2 .ensures) (f .second2 .given .1)
 
 wcmu-else-join-arms-requires : wcmu-else-need wcmu-else-lts.Need-join-arms-requires
 wcmu-else-join-arms-requires t c κs =
     let w = c .before .before .before .before .before .before .before .before in
-    omega (arith, else-within (w .before .before .before .before .before .pre .1))
+    omega (arith, else-within (w .before .before .before .before .pre .1 .1 .1))
 
 wcmu-else-returns-3 : wcmu-else-need wcmu-else-lts.Need-returns-3
-wcmu-else-returns-3 t c =
+wcmu-else-returns-3 t c to h =
     let f = c .before .before in
     let v = f .before .before in
     let g = v .before .before .before in
     let w = g .before .before in
-    let s = w .before .before .before .before .before in
-    else-joins (s .pre .1) (s .args .constants .now) (s .args .callees .now) (s .args .left) _ (w .wcmu-subregion .ensures) (g .first .given .1)
+    let a = w .before .before .before .before .args in
+    else-joins h (a .behind) (a .constants .now) (a .callees .now) (a .left) _ (w .wcmu-subregion .ensures) (g .first .given .1)
     (v .before .marked .ensures) _ (v .wcmu-subregion2 .ensures) (f .second .given .1) _ (c .join-arms .ensures)
 
 -- what the callees of `wcmu-if` ask and give, and what a need of it is
@@ -211,38 +189,31 @@ abbrev wcmu-if-need : (wcmu-if-lts.Claims → In 3 wcmu-if-kinds.ps → Out 3 wc
 wcmu-if-need N = (t : ℕ) → N (wcmu-if-calls t) (wcmu-if-at t) wcmu-if.Post
 
 wcmu-if-add-wcmu-subregion : wcmu-if-need wcmu-if-lts.Need-add-wcmu-subregion
-wcmu-if-add-wcmu-subregion t c = omega arith
+wcmu-if-add-wcmu-subregion t c = omega (arith, if-within (c .before .before .before .pre .1 .1 .1))
 
 wcmu-if-wcmu-subregion-requires : wcmu-if-need wcmu-if-lts.Need-wcmu-subregion-requires
-wcmu-if-wcmu-subregion-requires t c κs = (omega arith, if-arm (c .before .before .before .pre .1))
-
-wcmu-if-enum-known-part : wcmu-if-need wcmu-if-lts.Need-enum-known-part
-wcmu-if-enum-known-part t c = search needs
-
-wcmu-if-enum-known-part-2 : wcmu-if-need wcmu-if-lts.Need-enum-known-part-2
-wcmu-if-enum-known-part-2 t c = search needs
+wcmu-if-wcmu-subregion-requires t c κs =
+    let p = c .before .before .before .pre .1 in
+    (omega arith, block-part (if-arm (p .1 .1)) (p .0) refl (omega arith) (omega (arith, if-within (p .1 .1))))
 
 wcmu-if-returns : wcmu-if-need wcmu-if-lts.Need-returns
-wcmu-if-returns t c =
+wcmu-if-returns t c to h =
     let f = c .before in
     let w = f .before .before in
-    let s = w .before .before .before .before in
-    if-refused (s .pre .1) (s .args .constants .now) (s .args .callees .now) (s .args .left) _ (w .wcmu-subregion .ensures) (f .part2 .given .1)
-
-wcmu-if-height-at-requires : wcmu-if-need wcmu-if-lts.Need-height-at-requires
-wcmu-if-height-at-requires t c κs = tt
+    let a = w .before .before .before .before .args in
+    if-refused h (a .behind) (a .constants .now) (a .callees .now) (a .left) _ (w .wcmu-subregion .ensures) (f .part2 .given .1)
 
 wcmu-if-join-arms-requires : wcmu-if-need wcmu-if-lts.Need-join-arms-requires
 wcmu-if-join-arms-requires t c κs =
     let w = c .before .before .before .before in
-    omega (arith, if-within (w .before .before .before .before .pre .1))
+    omega (arith, if-within (w .before .before .before .before .pre .1 .1 .1))
 
 wcmu-if-returns-2 : wcmu-if-need wcmu-if-lts.Need-returns-2
-wcmu-if-returns-2 t c =
+wcmu-if-returns-2 t c to h =
     let f = c .before .before .before in
     let w = f .before .before in
-    let s = w .before .before .before .before in
-    if-joins (s .pre .1) (s .args .constants .now) (s .args .callees .now) (s .args .left) _ (w .wcmu-subregion .ensures) (f .part .given .1)
+    let a = w .before .before .before .before .args in
+    if-joins h (a .behind) (a .constants .now) (a .callees .now) (a .left) _ (w .wcmu-subregion .ensures) (f .part .given .1)
     (c .before .height-at .ensures) _ (c .join-arms .ensures)
 
 -- what the callees of `wcmu-loop` ask and give, and what a need of it is
@@ -263,86 +234,64 @@ wcmu-loop-calls t = (
 abbrev wcmu-loop-need : (wcmu-loop-lts.Claims → In 3 wcmu-loop-kinds.ps → Out 3 wcmu-loop-kinds.ps wcmu-loop-kinds.r → Type 0) → Type 0
 wcmu-loop-need N = (t : ℕ) → N (wcmu-loop-calls t) (wcmu-loop-at t) wcmu-loop.Post
 
-wcmu-loop-marked-requires : wcmu-loop-need wcmu-loop-lts.Need-marked-requires
-wcmu-loop-marked-requires t c κs = tt
-
 wcmu-loop-add-wcmu-subregion : wcmu-loop-need wcmu-loop-lts.Need-add-wcmu-subregion
-wcmu-loop-add-wcmu-subregion t c = omega arith
+wcmu-loop-add-wcmu-subregion t c = omega (arith, loop-within (c .before .before .before .before .pre .1 .1 .1))
 
 wcmu-loop-wcmu-subregion-requires : wcmu-loop-need wcmu-loop-lts.Need-wcmu-subregion-requires
-wcmu-loop-wcmu-subregion-requires t c κs = (omega arith, loop-body (c .before .before .before .before .pre .1) (c .marked .ensures))
-
-wcmu-loop-enum-known-part : wcmu-loop-need wcmu-loop-lts.Need-enum-known-part
-wcmu-loop-enum-known-part t c = search needs
-
-wcmu-loop-enum-known-part-2 : wcmu-loop-need wcmu-loop-lts.Need-enum-known-part-2
-wcmu-loop-enum-known-part-2 t c = search needs
+wcmu-loop-wcmu-subregion-requires t c κs =
+    let p = c .before .before .before .before .pre .1 in
+    (omega arith, block-part (loop-body (p .1 .1)) (p .0) (c .marked .ensures) (omega arith) (omega (arith, loop-within (p .1 .1))))
 
 wcmu-loop-returns : wcmu-loop-need wcmu-loop-lts.Need-returns
-wcmu-loop-returns t c =
+wcmu-loop-returns t c to h =
     let f = c .before in
     let w = f .before .before in
-    let s = w .before .before .before .before .before in
-    loop-refused (s .pre .1) (s .args .constants .now) (s .args .callees .now) (s .args .left) (w .before .marked .ensures) _ (w .wcmu-subregion .ensures)
+    let a = w .before .before .before .before .before .args in
+    loop-refused h (a .behind) (a .constants .now) (a .callees .now) (a .left) (w .before .marked .ensures) _ (w .wcmu-subregion .ensures)
     (f .part2 .given .1)
-
-wcmu-loop-raised-requires : wcmu-loop-need wcmu-loop-lts.Need-raised-requires
-wcmu-loop-raised-requires t c κs = tt
-
-wcmu-loop-enum-told : wcmu-loop-need wcmu-loop-lts.Need-enum-told
-wcmu-loop-enum-told t c = search needs
-
-wcmu-loop-enum-told-2 : wcmu-loop-need wcmu-loop-lts.Need-enum-told-2
-wcmu-loop-enum-told-2 t c = search needs
 
 wcmu-loop-passed-once-requires : wcmu-loop-need wcmu-loop-lts.Need-passed-once-requires
 wcmu-loop-passed-once-requires t c κs =
     let w = c .before .before .before .before .before .before .before in
-    omega (arith, loop-within (w .before .before .before .before .before .pre .1))
+    omega (arith, loop-within (w .before .before .before .before .before .pre .1 .1 .1))
 
 wcmu-loop-returns-2 : wcmu-loop-need wcmu-loop-lts.Need-returns-2
-wcmu-loop-returns-2 t c =
+wcmu-loop-returns-2 t c to h =
     let d = c .before in
     let f = d .before .before .before .before .before in
     let w = f .before .before in
-    let s = w .before .before .before .before .before in
-    loop-once (s .pre .1) (s .args .constants .now) (s .args .callees .now) (s .args .left) (w .before .marked .ensures) _ (w .wcmu-subregion .ensures)
+    let a = w .before .before .before .before .before .args in
+    loop-once h (a .behind) (a .constants .now) (a .callees .now) (a .left) (w .before .marked .ensures) _ (w .wcmu-subregion .ensures)
     (f .part .given .1) (d .before .before .raised .ensures) (d .enum-told2 .given .1) _ (c .passed-once .ensures)
 
 wcmu-loop-extract-loop-iteration-bound-requires : wcmu-loop-need wcmu-loop-lts.Need-extract-loop-iteration-bound-requires
 wcmu-loop-extract-loop-iteration-bound-requires t c κs =
     let w = c .before .before .before .before .before .before .before in
-    omega (arith, loop-within (w .before .before .before .before .before .pre .1))
-
-wcmu-loop-enum-told-3 : wcmu-loop-need wcmu-loop-lts.Need-enum-told-3
-wcmu-loop-enum-told-3 t c = search needs
-
-wcmu-loop-enum-told-4 : wcmu-loop-need wcmu-loop-lts.Need-enum-told-4
-wcmu-loop-enum-told-4 t c = search needs
+    omega (arith, loop-within (w .before .before .before .before .before .pre .1 .1 .1))
 
 wcmu-loop-returns-3 : wcmu-loop-need wcmu-loop-lts.Need-returns-3
-wcmu-loop-returns-3 t c =
+wcmu-loop-returns-3 t c to h =
     let n = c .before .before in
     let d = n .before in
     let f = d .before .before .before .before .before in
     let w = f .before .before in
-    let s = w .before .before .before .before .before in
-    loop-uncounted (s .pre .1) (s .args .constants .now) (s .args .callees .now) (s .args .left) (w .before .marked .ensures) _ (w .wcmu-subregion .ensures)
+    let a = w .before .before .before .before .before .args in
+    loop-uncounted h (a .behind) (a .constants .now) (a .callees .now) (a .left) (w .before .marked .ensures) _ (w .wcmu-subregion .ensures)
     (f .part .given .1) (d .before .before .raised .ensures) _ (n .extract-loop-iteration-bound .ensures) (d .enum-told .given .1) (c .enum-told4 .given .1)
 
-wcmu-loop-add-t19 : wcmu-loop-need wcmu-loop-lts.Need-add-t19
-wcmu-loop-add-t19 t c =
+wcmu-loop-add-t18 : wcmu-loop-need wcmu-loop-lts.Need-add-t18
+wcmu-loop-add-t18 t c =
     let w = c .before .before .before .before .before .before .before .before .before .before in
-    omega (arith, loop-within (w .before .before .before .before .before .pre .1))
+    omega (arith, loop-within (w .before .before .before .before .before .pre .1 .1 .1))
 
 wcmu-loop-returns-4 : wcmu-loop-need wcmu-loop-lts.Need-returns-4
-wcmu-loop-returns-4 t c =
+wcmu-loop-returns-4 t c to h =
     let n = c .before .before in
     let d = n .before in
     let f = d .before .before .before .before .before in
     let w = f .before .before in
-    let s = w .before .before .before .before .before in
-    loop-goes (s .pre .1) (s .args .constants .now) (s .args .callees .now) (s .args .left) (w .before .marked .ensures) _ (w .wcmu-subregion .ensures)
+    let a = w .before .before .before .before .before .args in
+    loop-goes h (a .behind) (a .constants .now) (a .callees .now) (a .left) (w .before .marked .ensures) _ (w .wcmu-subregion .ensures)
     (f .part .given .1) (d .before .before .raised .ensures) _ (n .extract-loop-iteration-bound .ensures) (d .enum-told .given .1) (c .enum-told3 .given .1)
 
 abbrev wcmu-region-at-Inv-loop : wcmu-region-at-lts.InvT-loop
@@ -365,43 +314,41 @@ wcmu-region-at-loop-holds t c = rest-start (c .before .before .before .pre .1)
 wcmu-region-at-wcmu-step-requires : wcmu-region-at-need wcmu-region-at-lts.Need-wcmu-step-requires
 wcmu-region-at-wcmu-step-requires t c κs =
     let l = c .before in
-    (omega arith, rest-fits (l .loop .inv) (l .before .before .before .before .pre .1) (c .loop-test .taken))
+    let r = l .loop .inv in
+    (omega arith, (rest-small r, (_, rest-fits r (l .before .before .before .before .pre .1) (c .loop-test .taken))))
 
-wcmu-region-at-enum-known-step : wcmu-region-at-need wcmu-region-at-lts.Need-enum-known-step
-wcmu-region-at-enum-known-step t c = search needs
+-- what the step taken means in this row
+wcmu-region-at-means : (t : ℕ) (c : wcmu-region-at-lts.After-wcmu-step (wcmu-region-at-calls t) (wcmu-region-at-at t) wcmu-region-at.Post wcmu-region-at-Inv-loop wcmu-region-at-μ-loop)
+    → let l = c .before .before .loop in
+    let a = c .before .before .before .before .before .before .args in
+    StepMeans (a .constants .now) (a .ops .now) (a .callees .now) (l .i) (a .to) (a .left) (l .level) (c .wcmu-step .result)
+wcmu-region-at-means t c =
+    let l = c .before in
+    c .wcmu-step .ensures _ (rest-fits (l .before .loop .inv) (l .before .before .before .before .before .pre .1) (l .loop-test .taken))
 
 wcmu-region-at-loop-less : wcmu-region-at-need wcmu-region-at-lts.Need-loop-less
 wcmu-region-at-loop-less t c =
     let s = c .before in
     let w = s .before .before in
-    omega (arith, rest-forward (w .before .before .loop .inv) (w .wcmu-step .result) (w .wcmu-step .ensures) (s .step .given .1))
+    omega (arith, rest-forward (w .before .before .loop .inv) (w .wcmu-step .result) (wcmu-region-at-means t w) (s .step .given .1))
 
 wcmu-region-at-loop-again : wcmu-region-at-need wcmu-region-at-lts.Need-loop-again
 wcmu-region-at-loop-again t c =
     let s = c .before in
     let w = s .before .before in
-    rest-goes (w .before .before .loop .inv) (w .wcmu-step .result) (w .wcmu-step .ensures) (s .step .given .1)
-
-wcmu-region-at-enum-known-step-2 : wcmu-region-at-need wcmu-region-at-lts.Need-enum-known-step-2
-wcmu-region-at-enum-known-step-2 t c = search needs
+    rest-goes (w .before .before .loop .inv) (w .wcmu-step .result) (wcmu-region-at-means t w) (s .step .given .1)
 
 wcmu-region-at-returns : wcmu-region-at-need wcmu-region-at-lts.Need-returns
 wcmu-region-at-returns t c =
     let s = c .before in
     let w = s .before .before in
-    rest-ends (w .before .before .loop .inv) (w .wcmu-step .result) (w .wcmu-step .ensures) (w .before .loop-test .taken) (s .step2 .given .1)
-
-wcmu-region-at-enum-known-step-3 : wcmu-region-at-need wcmu-region-at-lts.Need-enum-known-step-3
-wcmu-region-at-enum-known-step-3 t c = search needs
+    rest-ends (w .before .before .loop .inv) (w .wcmu-step .result) (wcmu-region-at-means t w) (w .before .loop-test .taken) (s .step2 .given .1)
 
 wcmu-region-at-returns-2 : wcmu-region-at-need wcmu-region-at-lts.Need-returns-2
 wcmu-region-at-returns-2 t c =
     let s = c .before in
     let w = s .before .before in
-    rest-refused (w .before .before .loop .inv) (w .wcmu-step .result) (w .wcmu-step .ensures) (s .step3 .given .1)
-
-wcmu-region-at-height-at-requires : wcmu-region-at-need wcmu-region-at-lts.Need-height-at-requires
-wcmu-region-at-height-at-requires t c κs = tt
+    rest-refused (w .before .before .loop .inv) (w .wcmu-step .result) (wcmu-region-at-means t w) (s .step3 .given .1)
 
 wcmu-region-at-returns-3 : wcmu-region-at-need wcmu-region-at-lts.Need-returns-3
 wcmu-region-at-returns-3 t c = rest-end (c .before .before .loop .inv) (c .before .loop-test .left) (c .height-at .result) (c .height-at .ensures)
@@ -413,142 +360,115 @@ wcmu-step-calls t = (
   op-effect-reads.Learnt,
   level-over-reads.Asked,
   level-over-reads.Learnt,
-  wcmu-else-below t,
-  wcmu-else.Post,
-  wcmu-if-below t,
-  wcmu-if.Post,
-  wcmu-loop-below t,
-  wcmu-loop.Post,
+  block-at-reads.Asked,
+  block-at-reads.Learnt,
   ended-reads.Asked,
   ended-reads.Learnt,
   marked-reads.Asked,
   marked-reads.Learnt,
+  wcmu-if-below t,
+  wcmu-if.Post,
+  wcmu-else-below t,
+  wcmu-else.Post,
+  wcmu-loop-below t,
+  wcmu-loop.Post,
 )
 
 abbrev wcmu-step-need : (wcmu-step-lts.Claims → In 3 wcmu-step-kinds.ps → Out 3 wcmu-step-kinds.ps wcmu-step-kinds.r → Type 0) → Type 0
 wcmu-step-need N = (t : ℕ) → N (wcmu-step-calls t) (wcmu-step-at t) wcmu-step.Post
 
 wcmu-step-op-effect-requires : wcmu-step-need wcmu-step-lts.Need-op-effect-requires
-wcmu-step-op-effect-requires t c κs = omega arith
+wcmu-step-op-effect-requires t c κs = let p = c .before .before .before .pre .1 .1 .1 in omega (arith, p .here, p .row .within)
 
 wcmu-step-level-over-requires : wcmu-step-need wcmu-step-lts.Need-level-over-requires
-wcmu-step-level-over-requires t c κs = over-fits (c .before .before .before .before .pre .1) _ (c .op-effect .ensures .1)
+wcmu-step-level-over-requires t c κs = let p = c .before .before .before .before .pre .1 in over-fits (p .1 .1) (c .op-effect .ensures .1) (p .0)
 
--- the level behind the op at i
+-- the level behind the op at i, in a row that ends at `to`
 wcmu-step-over : (t : ℕ) (c : wcmu-step-lts.After-level-over (wcmu-step-calls t) (wcmu-step-at t) wcmu-step.Post)
     → let a = c .before .before .before .before .before .args in
-    Over (a .ops .now) (a .callees .now) (a .i) (a .to) (a .level) (c .level-over .result)
-wcmu-step-over t c =
-    let o = c .before in
-    over (o .before .before .before .before .pre .1) (o .op-effect .ensures .0) (o .op-effect .ensures .1) (c .level-over .ensures)
+    (to : ℕ) → StepFits (a .ops .now) (a .i) to → Over (a .ops .now) (a .callees .now) (a .i) to (a .level) (c .level-over .result)
+wcmu-step-over t c to h = let o = c .before in over h (o .op-effect .ensures .1) (o .op-effect .ensures .0) (c .level-over .ensures)
 
-wcmu-step-mul-w : wcmu-step-need wcmu-step-lts.Need-mul-w
-wcmu-step-mul-w t c = omega arith
+wcmu-step-block-at-requires : wcmu-step-need wcmu-step-lts.Need-block-at-requires
+wcmu-step-block-at-requires t c κs = c .before .before .before .before .before .before .pre .1 .1
 
-wcmu-step-shared-slice-read-w : wcmu-step-need wcmu-step-lts.Need-shared-slice-read-w
-wcmu-step-shared-slice-read-w t c = omega arith
+wcmu-step-add-plain : wcmu-step-need wcmu-step-lts.Need-add-t16
+wcmu-step-add-plain t c =
+    let p = c .before .before .before .before .before .before .before .before .before .pre .1 .1 .1 in
+    omega (arith, p .here, p .row .within, p .row .short)
 
-wcmu-step-cast-t : wcmu-step-need wcmu-step-lts.Need-cast-t
-wcmu-step-cast-t t c = omega arith
-
-wcmu-step-sub-if2 : wcmu-step-need wcmu-step-lts.Need-sub-if2
-wcmu-step-sub-if2 t c = omega (arith, if-reach (wcmu-step-over t (c .before .before .before) .fits) (c .if1 .taken))
-
-wcmu-step-mul-if2 : wcmu-step-need wcmu-step-lts.Need-mul-if2
-wcmu-step-mul-if2 t c = omega arith
-
-wcmu-step-shared-slice-read-if2 : wcmu-step-need wcmu-step-lts.Need-shared-slice-read-if2
-wcmu-step-shared-slice-read-if2 t c = omega (arith, if-reach (wcmu-step-over t (c .before .before .before .before) .fits) (c .before .if1 .taken))
-
-wcmu-step-sub-wcmu-else : wcmu-step-need wcmu-step-lts.Need-sub-wcmu-else
-wcmu-step-sub-wcmu-else t c = omega (arith, if-reach (wcmu-step-over t (c .before .before .before .before .before) .fits) (c .before .before .if1 .taken))
-
-wcmu-step-wcmu-else-requires : wcmu-step-need wcmu-step-lts.Need-wcmu-else-requires
-wcmu-step-wcmu-else-requires t c κs =
-    let d = c .before .before in
-    (omega arith, else-fits (wcmu-step-over t (d .before .before .before)) (d .if1 .taken) (c .if2 .taken))
-
-wcmu-step-returns : wcmu-step-need wcmu-step-lts.Need-returns
-wcmu-step-returns t c =
-    let e = c .before in
-    let d = e .before .before in
-    let a = d .before .before .before .before .before .before .before .before .args in
-    step-else (wcmu-step-over t (d .before .before .before)) (a .constants .now) (a .left) (c .wcmu-else .result) (d .if1 .taken) (e .if2 .taken)
-    (c .wcmu-else .ensures)
+wcmu-step-add-break-if : wcmu-step-need wcmu-step-lts.Need-add-t17
+wcmu-step-add-break-if t c =
+    let p = c .before .before .before .before .before .before .before .before .before .pre .1 .1 .1 in
+    omega (arith, p .here, p .row .within, p .row .short)
 
 wcmu-step-wcmu-if-requires : wcmu-step-need wcmu-step-lts.Need-wcmu-if-requires
 wcmu-step-wcmu-if-requires t c κs =
-    let d = c .before .before in
-    (omega arith, if-fits (wcmu-step-over t (d .before .before .before)) (d .if1 .taken) (c .if2 .left))
+    let f = c .before in
+    let k = f .before .before in
+    let p = k .before .before .before .before .before .before .before .pre in
+    let s = p .1 .1 .1 in
+    (omega (arith, p .0), (behind-small (wcmu-step-over t (k .before .before) _ s) (p .1 .0), (_, record { row = s .row; at = rw (f .block .given .1) at (k .block-at .ensures _ s) })))
 
-wcmu-step-returns-2 : wcmu-step-need wcmu-step-lts.Need-returns-2
-wcmu-step-returns-2 t c =
-    let e = c .before in
-    let d = e .before .before in
-    let a = d .before .before .before .before .before .before .before .before .args in
-    step-if (wcmu-step-over t (d .before .before .before)) (a .constants .now) (a .left) (c .wcmu-if .result) (d .if1 .taken) (e .if2 .left)
-    (c .wcmu-if .ensures)
-
-wcmu-step-sub-wcmu-loop : wcmu-step-need wcmu-step-lts.Need-sub-wcmu-loop
-wcmu-step-sub-wcmu-loop t c = omega (arith, loop-reach (wcmu-step-over t (c .before .before .before .before) .fits) (c .if3 .taken))
+wcmu-step-wcmu-else-requires : wcmu-step-need wcmu-step-lts.Need-wcmu-else-requires
+wcmu-step-wcmu-else-requires t c κs =
+    let f = c .before in
+    let k = f .before .before in
+    let p = k .before .before .before .before .before .before .before .pre in
+    let s = p .1 .1 .1 in
+    (omega (arith, p .0), (behind-small (wcmu-step-over t (k .before .before) _ s) (p .1 .0), (_, record { row = s .row; at = rw (f .block2 .given .1) at (k .block-at .ensures _ s) })))
 
 wcmu-step-wcmu-loop-requires : wcmu-step-need wcmu-step-lts.Need-wcmu-loop-requires
-wcmu-step-wcmu-loop-requires t c κs = (omega arith, loop-fits (wcmu-step-over t (c .before .before .before .before)) (c .if3 .taken))
+wcmu-step-wcmu-loop-requires t c κs =
+    let f = c .before in
+    let k = f .before .before in
+    let p = k .before .before .before .before .before .before .before .pre in
+    let s = p .1 .1 .1 in
+    (omega (arith, p .0), (behind-small (wcmu-step-over t (k .before .before) _ s) (p .1 .0), (_, record { row = s .row; at = rw (f .block3 .given .1) at (k .block-at .ensures _ s) })))
+
+wcmu-step-returns : wcmu-step-need wcmu-step-lts.Need-returns
+wcmu-step-returns t c to h =
+    let k = c .before .before in
+    step-plain (wcmu-step-over t (k .before .before) to h) _ _ (k .block-at .ensures to h) (c .enum-told .given .1)
+
+wcmu-step-returns-2 : wcmu-step-need wcmu-step-lts.Need-returns-2
+wcmu-step-returns-2 t c to h =
+    let e = c .before in
+    let k = e .before .before in
+    step-ends (wcmu-step-over t (k .before .before) to h) _ _ (k .block-at .ensures to h) _ (e .enum-told2 .given .1) (c .ended .ensures)
 
 wcmu-step-returns-3 : wcmu-step-need wcmu-step-lts.Need-returns-3
-wcmu-step-returns-3 t c =
+wcmu-step-returns-3 t c to h =
     let e = c .before in
-    let d = e .before in
-    let a = d .before .before .before .before .before .before .before .before .args in
-    step-loop (wcmu-step-over t (d .before .before .before)) (a .constants .now) (a .left) (c .wcmu-loop .result) (e .if3 .taken) (c .wcmu-loop .ensures)
-
-wcmu-step-ended-requires : wcmu-step-need wcmu-step-lts.Need-ended-requires
-wcmu-step-ended-requires t c κs = tt
+    let k = e .before .before in
+    step-break (wcmu-step-over t (k .before .before) to h) _ _ (k .block-at .ensures to h) _ (e .enum-told3 .given .1) (c .ended2 .ensures)
 
 wcmu-step-returns-4 : wcmu-step-need wcmu-step-lts.Need-returns-4
-wcmu-step-returns-4 t c =
-    let j = c .before in
-    let d = j .before .before in
-    let a = d .before .before .before .before .before .before .before .before .args in
-    let k = ⊎-elim (λ w. inl (w .taken)) (λ w. inr (eqb-true _ 50 (w .1 .taken))) (j .if4 .came) in
-    step-ends (wcmu-step-over t (d .before .before .before)) (a .constants .now) (a .left) _ (c .ended .ensures) k
-
-wcmu-step-ended-requires-2 : wcmu-step-need wcmu-step-lts.Need-ended-requires-2
-wcmu-step-ended-requires-2 t c κs = tt
+wcmu-step-returns-4 t c to h =
+    let e = c .before in
+    let k = e .before .before in
+    step-break-if (wcmu-step-over t (k .before .before) to h) _ _ (k .block-at .ensures to h) _ (e .enum-told4 .given .1) (c .marked .ensures)
 
 wcmu-step-returns-5 : wcmu-step-need wcmu-step-lts.Need-returns-5
-wcmu-step-returns-5 t c =
-    let e = c .before in
-    let d = e .before .before .before .before in
-    let a = d .before .before .before .before .before .before .before .before .args in
-    step-break (wcmu-step-over t (d .before .before .before)) (a .constants .now) (a .left) _ (c .ended2 .ensures) (e .if6 .taken)
-
-wcmu-step-add-t28 : wcmu-step-need wcmu-step-lts.Need-add-t28
-wcmu-step-add-t28 t c = omega arith
-
-wcmu-step-marked-requires : wcmu-step-need wcmu-step-lts.Need-marked-requires
-wcmu-step-marked-requires t c κs = tt
+wcmu-step-returns-5 t c to h =
+    let f = c .before .before in
+    let k = f .before .before in
+    step-if (wcmu-step-over t (k .before .before) to h) _ _ (k .block-at .ensures to h)
+    (c .wcmu-if .result) (f .block .given .1) (c .wcmu-if .ensures)
 
 wcmu-step-returns-6 : wcmu-step-need wcmu-step-lts.Need-returns-6
-wcmu-step-returns-6 t c =
-    let e = c .before in
-    let d = e .before .before .before .before .before in
-    let a = d .before .before .before .before .before .before .before .before .args in
-    step-break-if (wcmu-step-over t (d .before .before .before)) (a .constants .now) (a .left) _ (c .marked .ensures) (e .if7 .taken)
-
-wcmu-step-add-t14 : wcmu-step-need wcmu-step-lts.Need-add-t14
-wcmu-step-add-t14 t c = omega arith
+wcmu-step-returns-6 t c to h =
+    let f = c .before .before in
+    let k = f .before .before in
+    step-else (wcmu-step-over t (k .before .before) to h) _ _ (k .block-at .ensures to h)
+    (c .wcmu-else .result) (f .block2 .given .1) (c .wcmu-else .ensures)
 
 wcmu-step-returns-7 : wcmu-step-need wcmu-step-lts.Need-returns-7
-wcmu-step-returns-7 t c =
-    let g = c .before in
-    let f = g .before in
-    let e = f .before in
-    let l = e .before in
-    let d = l .before in
-    let a = d .before .before .before .before .before .before .before .before .args in
-    step-plain (wcmu-step-over t (d .before .before .before)) (a .constants .now) (a .left) (d .if1 .left) (l .if3 .left) (g .if6 .left)
-    (c .if7 .left) (e .if4 .left) (eqb-false _ 50 (f .if5 .left))
+wcmu-step-returns-7 t c to h =
+    let f = c .before .before in
+    let k = f .before .before in
+    step-loop (wcmu-step-over t (k .before .before) to h) _ _ (k .block-at .ensures to h)
+    (c .wcmu-loop .result) (f .block3 .given .1) (c .wcmu-loop .ensures)
 
 -- what the callees of `wcmu-subregion` ask and give, and what a need of it is
 abbrev wcmu-subregion-calls : ℕ → wcmu-subregion-lts.Claims
@@ -562,17 +482,8 @@ wcmu-subregion-returns t c =
     let s = c .before .before .before .before in
     part-deepest (s .args .constants .now) (s .args .callees .now) (s .args .left) (s .pre .1) (c .if1 .taken)
 
-wcmu-subregion-sub-wcmu-region-at : wcmu-subregion-need wcmu-subregion-lts.Need-sub-wcmu-region-at
-wcmu-subregion-sub-wcmu-region-at t c = omega arith
-
 wcmu-subregion-wcmu-region-at-requires : wcmu-subregion-need wcmu-subregion-lts.Need-wcmu-region-at-requires
 wcmu-subregion-wcmu-region-at-requires t c κs = (omega arith, c .before .before .before .before .pre .1 .row)
-
-wcmu-subregion-enum-known-part : wcmu-subregion-need wcmu-subregion-lts.Need-enum-known-part
-wcmu-subregion-enum-known-part t c = search needs
-
-wcmu-subregion-enum-known-part-2 : wcmu-subregion-need wcmu-subregion-lts.Need-enum-known-part-2
-wcmu-subregion-enum-known-part-2 t c = search needs
 
 wcmu-subregion-returns-2 : wcmu-subregion-need wcmu-subregion-lts.Need-returns-2
 wcmu-subregion-returns-2 t c =
@@ -603,29 +514,26 @@ pub +wcmu-else+wcmu-if+wcmu-loop+wcmu-region-at+wcmu-step+wcmu-subregion-spec :
 +wcmu-else+wcmu-if+wcmu-loop+wcmu-region-at+wcmu-step+wcmu-subregion-spec =
     close
     μ-wcmu-else μ-wcmu-if μ-wcmu-loop μ-wcmu-region-at μ-wcmu-step μ-wcmu-subregion
-    (λ t. wcmu-else-lts.spec (wcmu-else-calls t) (wcmu-else-at t) wcmu-else.Post (wcmu-else-mul-f t) (wcmu-else-shared-slice-read-f t)
-    (wcmu-else-cast-f t) (wcmu-else-add-wcmu-subregion t) (wcmu-else-wcmu-subregion-requires t) (wcmu-else-enum-known-first t)
-    (wcmu-else-enum-known-first-2 t) (wcmu-else-returns t) (wcmu-else-marked-requires t) (wcmu-else-add-wcmu-subregion-2 t)
-    (wcmu-else-wcmu-subregion-requires-2 t) (wcmu-else-enum-known-second t) (wcmu-else-enum-known-second-2 t) (wcmu-else-returns-2 t)
+    (λ t. wcmu-else-lts.spec (wcmu-else-calls t) (wcmu-else-at t) wcmu-else.Post (wcmu-else-add-wcmu-subregion t)
+    (wcmu-else-wcmu-subregion-requires t) (λ c. search needs) (λ c. search needs) (wcmu-else-returns t) (λ c κs. tt) (λ c. omega arith)
+    (wcmu-else-wcmu-subregion-requires-2 t) (λ c. search needs) (λ c. search needs) (wcmu-else-returns-2 t)
     (wcmu-else-join-arms-requires t) (wcmu-else-returns-3 t))
     (λ t. wcmu-if-lts.spec (wcmu-if-calls t) (wcmu-if-at t) wcmu-if.Post (wcmu-if-add-wcmu-subregion t) (wcmu-if-wcmu-subregion-requires t)
-    (wcmu-if-enum-known-part t) (wcmu-if-enum-known-part-2 t) (wcmu-if-returns t) (wcmu-if-height-at-requires t) (wcmu-if-join-arms-requires t)
-    (wcmu-if-returns-2 t))
-    (λ t. wcmu-loop-lts.spec (wcmu-loop-calls t) (wcmu-loop-at t) wcmu-loop.Post (wcmu-loop-marked-requires t) (wcmu-loop-add-wcmu-subregion t)
-    (wcmu-loop-wcmu-subregion-requires t) (wcmu-loop-enum-known-part t) (wcmu-loop-enum-known-part-2 t) (wcmu-loop-returns t)
-    (wcmu-loop-raised-requires t) (wcmu-loop-enum-told t) (wcmu-loop-enum-told-2 t) (wcmu-loop-passed-once-requires t) (wcmu-loop-returns-2 t)
-    (wcmu-loop-extract-loop-iteration-bound-requires t) (wcmu-loop-enum-told-3 t) (wcmu-loop-enum-told-4 t) (wcmu-loop-returns-3 t)
-    (wcmu-loop-add-t19 t) (wcmu-loop-returns-4 t))
+    (λ c. search needs) (λ c. search needs) (wcmu-if-returns t) (λ c κs. tt) (wcmu-if-join-arms-requires t) (wcmu-if-returns-2 t))
+    (λ t. wcmu-loop-lts.spec (wcmu-loop-calls t) (wcmu-loop-at t) wcmu-loop.Post (λ c κs. tt) (wcmu-loop-add-wcmu-subregion t)
+    (wcmu-loop-wcmu-subregion-requires t) (λ c. search needs) (λ c. search needs) (wcmu-loop-returns t)
+    (λ c κs. tt) (λ c. search needs) (λ c. search needs) (wcmu-loop-passed-once-requires t) (wcmu-loop-returns-2 t)
+    (wcmu-loop-extract-loop-iteration-bound-requires t) (λ c. search needs) (λ c. search needs) (wcmu-loop-returns-3 t)
+    (wcmu-loop-add-t18 t) (wcmu-loop-returns-4 t))
     (λ t. wcmu-region-at-lts.spec (wcmu-region-at-calls t) (wcmu-region-at-at t) wcmu-region-at.Post wcmu-region-at-Inv-loop wcmu-region-at-μ-loop
-    (wcmu-region-at-loop-holds t) (wcmu-region-at-wcmu-step-requires t) (wcmu-region-at-enum-known-step t) (wcmu-region-at-loop-less t)
-    (wcmu-region-at-loop-again t) (wcmu-region-at-enum-known-step-2 t) (wcmu-region-at-returns t) (wcmu-region-at-enum-known-step-3 t)
-    (wcmu-region-at-returns-2 t) (wcmu-region-at-height-at-requires t) (wcmu-region-at-returns-3 t))
+    (wcmu-region-at-loop-holds t) (wcmu-region-at-wcmu-step-requires t) (λ c. search needs) (wcmu-region-at-loop-less t)
+    (wcmu-region-at-loop-again t) (λ c. search needs) (wcmu-region-at-returns t) (λ c. search needs)
+    (wcmu-region-at-returns-2 t) (λ c κs. tt) (wcmu-region-at-returns-3 t))
     (λ t. wcmu-step-lts.spec (wcmu-step-calls t) (wcmu-step-at t) wcmu-step.Post (wcmu-step-op-effect-requires t) (wcmu-step-level-over-requires t)
-    (wcmu-step-mul-w t) (wcmu-step-shared-slice-read-w t) (wcmu-step-cast-t t) (wcmu-step-sub-if2 t) (wcmu-step-mul-if2 t)
-    (wcmu-step-shared-slice-read-if2 t) (wcmu-step-sub-wcmu-else t) (wcmu-step-wcmu-else-requires t) (wcmu-step-returns t)
-    (wcmu-step-wcmu-if-requires t) (wcmu-step-returns-2 t) (wcmu-step-sub-wcmu-loop t) (wcmu-step-wcmu-loop-requires t) (wcmu-step-returns-3 t)
-    (wcmu-step-ended-requires t) (wcmu-step-returns-4 t) (wcmu-step-ended-requires-2 t) (wcmu-step-returns-5 t) (wcmu-step-add-t28 t)
-    (wcmu-step-marked-requires t) (wcmu-step-returns-6 t) (wcmu-step-add-t14 t) (wcmu-step-returns-7 t))
+    (wcmu-step-block-at-requires t) (λ c. search needs) (wcmu-step-add-plain t) (λ c. search needs) (λ c κs. tt) (λ c. search needs) (λ c κs. tt)
+    (λ c. search needs) (wcmu-step-add-break-if t) (λ c κs. tt) (λ c. search needs) (wcmu-step-wcmu-if-requires t) (λ c. search needs)
+    (wcmu-step-wcmu-else-requires t) (λ c. search needs) (wcmu-step-wcmu-loop-requires t) (wcmu-step-returns t) (wcmu-step-returns-2 t)
+    (wcmu-step-returns-3 t) (wcmu-step-returns-4 t) (wcmu-step-returns-5 t) (wcmu-step-returns-6 t) (wcmu-step-returns-7 t))
     λ t. wcmu-subregion-lts.spec (wcmu-subregion-calls t) (wcmu-subregion-at t) wcmu-subregion.Post (wcmu-subregion-returns t)
-    (wcmu-subregion-sub-wcmu-region-at t) (wcmu-subregion-wcmu-region-at-requires t) (wcmu-subregion-enum-known-part t)
-    (wcmu-subregion-enum-known-part-2 t) (wcmu-subregion-returns-2 t) (wcmu-subregion-lift-requires t) (wcmu-subregion-returns-3 t)
+    (λ c. omega arith) (wcmu-subregion-wcmu-region-at-requires t) (λ c. search needs)
+    (λ c. search needs) (wcmu-subregion-returns-2 t) (wcmu-subregion-lift-requires t) (wcmu-subregion-returns-3 t)

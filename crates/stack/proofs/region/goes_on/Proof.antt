@@ -9,17 +9,8 @@ use borrow.Author.Needs.{needs}
 use Rattle.stack.proofs.region.goes_on.Statement.{statement}
 use Rattle.stack.proofs.region.goes_on.Tie as tie
 
-enum-known-delta : tie.Need-enum-known-delta
-enum-known-delta c = search needs
-
-add-t7 : tie.Need-add-t7
-add-t7 c = search needs
-
 enum-told : tie.Need-enum-told
 enum-told c = search needs
-
-ended-requires : tie.Need-ended-requires
-ended-requires c κs = search needs
 
 returns : tie.Need-returns
 returns c =
@@ -31,4 +22,5 @@ returns-2 c = let e = ap deltaOf (c .before .enum-told .given .1) in rw (c .ende
 
 pub goes-on-spec : {M : Type 1} → statement M
 goes-on-spec =
-    tie.close (tie.spec enum-known-delta add-t7 enum-told ended-requires returns returns-2)
+    tie.close
+    (tie.spec (λ c. search needs) (λ c. search needs) enum-told (λ c κs. search needs) returns returns-2)

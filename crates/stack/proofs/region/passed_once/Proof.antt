@@ -5,17 +5,13 @@ use borrow.Author.Needs.{needs}
 use Rattle.stack.proofs.region.passed_once.Statement.{statement}
 use Rattle.stack.proofs.region.passed_once.Tie as tie
 
-add-t6 : tie.Need-add-t6
-add-t6 c = search needs
-
 returns : tie.Need-returns
 returns c = rw (c .if1 .taken, add-one (c .before .args .e))
-
-ended-requires : tie.Need-ended-requires
-ended-requires c κs = search needs
 
 returns-2 : tie.Need-returns-2
 returns-2 c = rw (c .ended .ensures, c .before .before .if1 .left)
 
 pub passed-once-spec : {M : Type 1} → statement M
-passed-once-spec = tie.close (tie.spec add-t6 returns ended-requires returns-2)
+passed-once-spec =
+    tie.close
+    (tie.spec (λ c. search needs) returns (λ c κs. search needs) returns-2)

@@ -9,11 +9,7 @@ use Rattle.walk_cases.proofs.depth.front.Tie as tie
 slice-aggregate-walk-many : tie.Need-slice-aggregate-walk-many
 slice-aggregate-walk-many c = sym (length-take-le _ _ (c .before .before .before .pre))
 
-walk-many-requires : tie.Need-walk-many-requires
-walk-many-requires c κs = search needs
-
-returns : tie.Need-returns
-returns c = search needs
-
 pub front-spec : {M : Type 1} → statement M
-front-spec = tie.close (tie.spec slice-aggregate-walk-many walk-many-requires returns)
+front-spec =
+    tie.close
+    (tie.spec slice-aggregate-walk-many (λ c κs. search needs) (λ c. search needs))

@@ -14,11 +14,9 @@ use Rattle.words.proofs.fields.is_op.Tie as tie
 passes : (k b g : ℕ) (test : Bool) → k ≤ 65 → b ≤ g → (leb k 65 && leb b g && test) ≡ test
 passes k b g test h l = simp (le-leb k 65 h, le-leb b g l)
 
--- src/fields.rt:58:9
 returns : tie.Need-returns
 returns c = simp (lt-leb _ _ (c .if1 .taken))
 
--- src/fields.rt:61:9
 returns-2 : tie.Need-returns-2
 returns-2 c =
     let w = c .before .before .args .w in
@@ -26,26 +24,15 @@ returns-2 c =
     let a : fieldA w ≡ 0 = omega arith in
     sym (passes (kind w) (fieldB w) _ _ (omega arith) (omega arith) ∙ rw (a, or-true (usesA (kind w))))
 
--- src/fields.rt:63:8
-greatest-b-requires : tie.Need-greatest-b-requires
-greatest-b-requires c κs = search needs
-
--- src/fields.rt:64:9
 returns-3 : tie.Need-returns-3
 returns-3 c = simp (lt-leb _ _ (rw (c .before .greatest-b .ensures) at (c .if3 .taken)), and-false)
 
--- src/fields.rt:66:23
-uses-a-requires : tie.Need-uses-a-requires
-uses-a-requires c κs = search needs
-
--- src/fields.rt:53:1
 returns-4 : tie.Need-returns-4
 returns-4 c =
     let w = c .before .before .before .before .before .args .w in
     let b = rw (c .before .before .greatest-b .ensures) at (c .before .if3 .left) in
     sym (passes (kind w) _ _ _ (omega arith) b ∙ rw (c .if4 .taken) (or-true (usesA (kind w))))
 
--- src/fields.rt:53:1
 returns-5 : tie.Need-returns-5
 returns-5 c =
     let w = c .before .before .before .before .before .before .args .w in
@@ -55,4 +42,4 @@ returns-5 c =
 pub is-op-spec : {M : Type 1} → statement M
 is-op-spec =
     tie.close
-    (tie.spec returns returns-2 greatest-b-requires returns-3 uses-a-requires returns-4 returns-5)
+    (tie.spec returns returns-2 (λ c κs. search needs) returns-3 (λ c κs. search needs) returns-4 returns-5)

@@ -15,21 +15,17 @@ as-bit : (u : Bool) → eqb (cond u 1 0) 1 ≡ u
 as-bit true = refl
 as-bit false = refl
 
--- src/fields.rt:47:9
 returns : tie.Need-returns
 returns c =
     let k = c .before .args .k in
     simp (le-leb 64 k (c .if1 .taken), le-leb k 65 (c .before .pre), or-true)
 
--- src/fields.rt:49:6
-shr-result : tie.Need-shr-result
-shr-result c = search needs
-
--- src/fields.rt:42:1
 returns-2 : tie.Need-returns-2
 returns-2 c =
     let k = c .before .args .k in
     rw (same (λ k. false) (λ k. 0x0004_0004_4f60_0007 / 2 ^ k % 2) (λ k. cond (usesA k) 1 0) 64 refl k (omega arith) refl) (as-bit (usesA k))
 
 pub uses-a-spec : {M : Type 1} → statement M
-uses-a-spec = tie.close (tie.spec returns shr-result returns-2)
+uses-a-spec =
+    tie.close
+    (tie.spec returns (λ c. search needs) returns-2)

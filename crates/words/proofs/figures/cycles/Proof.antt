@@ -12,31 +12,21 @@ use borrow.Author.Needs.{needs}
 use Rattle.words.proofs.figures.cycles.Statement.{statement}
 use Rattle.words.proofs.figures.cycles.Tie as tie
 
--- src/figures.rt:221:9
 returns : tie.Need-returns
 returns c = rw (over (c .before .args .w) (c .if1 .taken))
 
--- src/figures.rt:224:9
 returns-2 : tie.Need-returns-2
 returns-2 c = rw (c .before .if2 .taken, c .if3 .taken)
 
--- src/figures.rt:224:9
 returns-3 : tie.Need-returns-3
 returns-3 c = simp (c .before .if2 .taken, ne-eqb _ _ (c .if3 .left))
 
--- src/figures.rt:227:9
 returns-4 : tie.Need-returns-4
 returns-4 c = rw (c .before .if4 .taken, c .if5 .taken)
 
--- src/figures.rt:227:9
 returns-5 : tie.Need-returns-5
 returns-5 c = rw (c .before .if4 .taken) (sym (trap-cycles _ (c .if5 .left)))
 
--- src/figures.rt:40:5
-row-of-requires : tie.Need-row-of-requires
-row-of-requires c κs = search needs
-
--- src/figures.rt:216:1
 returns-6 : tie.Need-returns-6
 unfolding inGroups
 returns-6 c =
@@ -48,11 +38,4 @@ returns-6 c =
 pub cycles-spec : {M : Type 1} → statement M
 cycles-spec =
     tie.close
-    (tie.spec
-    returns
-    returns-2
-    returns-3
-    returns-4
-    returns-5
-    row-of-requires
-    returns-6)
+    (tie.spec returns returns-2 returns-3 returns-4 returns-5 (λ c κs. search needs) returns-6)

@@ -48,27 +48,6 @@ chosen c =
     (⊎-elim (λ w. w .1 ∙ rw (w .0 .keys7))
     (⊎-elim (λ w. w .1 ∙ rw (w .0 .keys8)) (λ w. w .1 ∙ rw (ninth (record { before = c .before; match = w .0 })))))))))) (c .match .came)
 
--- src/figures.rt:23:22
-sub-result : tie.Need-sub-result
-sub-result c = search needs
-
--- src/figures.rt:23:17
-mul-result : tie.Need-mul-result
-mul-result c = search needs
-
--- src/figures.rt:23:17
-cast-result : tie.Need-cast-result
-cast-result c = search needs
-
--- src/figures.rt:23:7
-shr-result : tie.Need-shr-result
-shr-result c = search needs
-
--- src/figures.rt:23:5
-cast-result-2 : tie.Need-cast-result-2
-cast-result-2 c = search needs
-
--- src/figures.rt:8:1
 returns : tie.Need-returns
 unfolding inGroups
 returns c =
@@ -78,4 +57,5 @@ returns c =
 
 pub row-of-spec : {M : Type 1} → statement M
 row-of-spec =
-    tie.close (tie.spec sub-result mul-result cast-result shr-result cast-result-2 returns)
+    tie.close
+    (tie.spec (λ c. search needs) (λ c. search needs) (λ c. search needs) (λ c. search needs) (λ c. search needs) returns)

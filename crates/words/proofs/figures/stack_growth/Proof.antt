@@ -27,9 +27,6 @@ returns-4 c = rw (natives _ (c .before .before .if3 .taken) (c .before .if4 .lef
 returns-5 : tie.Need-returns-5
 returns-5 c = rw (natives _ (c .before .before .if3 .taken) (c .before .if4 .left), lt-leb 128 _ (c .if5 .left))
 
-row-of-requires : tie.Need-row-of-requires
-row-of-requires c κs = search needs
-
 returns-6 : tie.Need-returns-6
 unfolding inGroups
 returns-6 c =
@@ -42,4 +39,5 @@ returns-6 c =
 
 pub stack-growth-spec : {M : Type 1} → statement M
 stack-growth-spec =
-    tie.close (tie.spec returns returns-2 returns-3 returns-4 returns-5 row-of-requires returns-6)
+    tie.close
+    (tie.spec returns returns-2 returns-3 returns-4 returns-5 (λ c κs. search needs) returns-6)

@@ -35,14 +35,8 @@ returns-5 c = rw (c .before .if7 .taken, c .if8 .taken)
 returns-6 : tie.Need-returns-6
 returns-6 c = simp (c .before .if7 .taken, ne-eqb _ _ (c .if8 .left))
 
-trap-shrink-requires : tie.Need-trap-shrink-requires
-trap-shrink-requires c κs = search needs
-
 returns-7 : tie.Need-returns-7
 returns-7 c = rw (c .before .if9 .taken) (c .trap-shrink .ensures)
-
-row-of-requires : tie.Need-row-of-requires
-row-of-requires c κs = search needs
 
 returns-8 : tie.Need-returns-8
 unfolding inGroups
@@ -59,14 +53,4 @@ returns-8 c =
 pub stack-shrink-spec : {M : Type 1} → statement M
 stack-shrink-spec =
     tie.close
-    (tie.spec
-    returns
-    returns-2
-    returns-3
-    returns-4
-    returns-5
-    returns-6
-    trap-shrink-requires
-    returns-7
-    row-of-requires
-    returns-8)
+    (tie.spec returns returns-2 returns-3 returns-4 returns-5 returns-6 (λ c κs. search needs) returns-7 (λ c κs. search needs) returns-8)

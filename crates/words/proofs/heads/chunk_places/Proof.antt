@@ -18,7 +18,6 @@ Inv-loop words n heads₀ ops₀ extras₀ ends₀ at₀ i₀ heads ops extras e
 abbrev μ-loop : tie.MeasureT-loop
 μ-loop words n heads₀ ops₀ extras₀ ends₀ at₀ i₀ heads ops extras ends at i = n - i
 
--- src/heads.rt:45:5
 loop-holds : tie.Need-loop-holds Inv-loop μ-loop
 loop-holds c = (omega arith, record { heads-size = refl; ops-size = refl; extras-size = refl; ends-size = refl }, first-head (chunksIn (c .before .args .words .now)), λ k h. absurd (omega arith))
 
@@ -28,7 +27,6 @@ few c =
     let a = c .before .before .before in
     omega (arith, read-words (a .args .words .now) (chunksIn (a .args .words .now)) (a .pre .0) .1 .most)
 
--- src/heads.rt:46:13
 parts-at-requires : tie.Need-parts-at-requires Inv-loop μ-loop
 parts-at-requires c κs =
     let l = c .before in
@@ -43,63 +41,42 @@ fit c =
     let a = l .before .before in
     places-fit (a .args .words .now) (a .pre .0) (l .loop .i) (omega arith) (l .loop .at) _ (l .loop .inv .2) (c .parts-at .ensures)
 
--- src/heads.rt:47:20
 cast-heads : tie.Need-cast-heads Inv-loop μ-loop
 cast-heads c = omega (arith, fit c .0)
 
--- src/heads.rt:47:9
 mul-heads : tie.Need-mul-heads Inv-loop μ-loop
 mul-heads c = omega (arith, few (c .before))
 
--- src/heads.rt:47:9
 array-write-heads : tie.Need-array-write-heads Inv-loop μ-loop
 array-write-heads c = omega (arith, few (c .before))
 
--- src/heads.rt:48:18
 cast-ops : tie.Need-cast-ops Inv-loop μ-loop
 cast-ops c = omega (arith, fit (c .before) .1)
 
--- src/heads.rt:48:9
 mul-ops : tie.Need-mul-ops Inv-loop μ-loop
 mul-ops c = omega (arith, few (c .before .before))
 
--- src/heads.rt:48:9
 array-write-ops : tie.Need-array-write-ops Inv-loop μ-loop
 array-write-ops c = omega (arith, few (c .before .before))
 
--- src/heads.rt:49:21
 cast-extras : tie.Need-cast-extras Inv-loop μ-loop
 cast-extras c = omega (arith, fit (c .before .before) .2)
 
--- src/heads.rt:49:9
 mul-extras : tie.Need-mul-extras Inv-loop μ-loop
 mul-extras c = omega (arith, few (c .before .before .before))
 
--- src/heads.rt:49:9
 array-write-extras : tie.Need-array-write-extras Inv-loop μ-loop
 array-write-extras c = omega (arith, few (c .before .before .before))
 
--- src/heads.rt:50:19
 cast-ends : tie.Need-cast-ends Inv-loop μ-loop
 cast-ends c = omega (arith, fit (c .before .before .before) .3)
 
--- src/heads.rt:50:9
 mul-ends : tie.Need-mul-ends Inv-loop μ-loop
 mul-ends c = omega (arith, few (c .before .before .before .before))
 
--- src/heads.rt:50:9
 array-write-ends : tie.Need-array-write-ends Inv-loop μ-loop
 array-write-ends c = omega (arith, few (c .before .before .before .before))
 
--- src/heads.rt:52:9
-add-i : tie.Need-add-i Inv-loop μ-loop
-add-i c = omega arith
-
--- src/heads.rt:45:5
-loop-less : tie.Need-loop-less Inv-loop μ-loop
-loop-less c = omega arith
-
--- src/heads.rt:45:5
 loop-again : tie.Need-loop-again Inv-loop μ-loop
 loop-again c =
     let p = c .before .before .before in
@@ -109,31 +86,11 @@ loop-again c =
     let more = places-more ws (l .loop .inv .1) (l .loop .i) (l .loop .at) _ (few (p .before)) (l .loop .inv .2) (p .parts-at .ensures) (l .loop .inv .3) in
     (omega arith, more .0, next-at ws (chunksIn ws) (a .pre .0) (l .loop .i) (omega arith) (l .loop .at) _ (l .loop .inv .2) (p .parts-at .ensures), more .1)
 
--- src/heads.rt:35:1
 returns : tie.Need-returns Inv-loop μ-loop
 returns c k h = c .before .loop .inv .3 k (omega arith)
 
 pub chunk-places-spec : {M : Type 1} → statement M
 chunk-places-spec =
     tie.close
-    (tie.spec
-    Inv-loop
-    μ-loop
-    loop-holds
-    parts-at-requires
-    cast-heads
-    mul-heads
-    array-write-heads
-    cast-ops
-    mul-ops
-    array-write-ops
-    cast-extras
-    mul-extras
-    array-write-extras
-    cast-ends
-    mul-ends
-    array-write-ends
-    add-i
-    loop-less
-    loop-again
-    returns)
+    (tie.spec Inv-loop μ-loop loop-holds parts-at-requires cast-heads mul-heads array-write-heads cast-ops mul-ops array-write-ops cast-extras
+    mul-extras array-write-extras cast-ends mul-ends array-write-ends (λ c. omega arith) (λ c. omega arith) loop-again returns)

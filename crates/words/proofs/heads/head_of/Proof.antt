@@ -13,33 +13,21 @@ Inv-loop words c at₀ i₀ at i = (i ≤ c) × (at ≡ headAt (chunksIn words) 
 abbrev μ-loop : tie.MeasureT-loop
 μ-loop words c at₀ i₀ at i = c - i
 
--- src/heads.rt:17:5
 loop-holds : tie.Need-loop-holds Inv-loop μ-loop
 loop-holds c = (omega arith, first-head (chunksIn (c .before .args .words .now)))
 
--- src/heads.rt:18:13
 parts-at-requires : tie.Need-parts-at-requires Inv-loop μ-loop
 parts-at-requires c κs =
     let l = c .before in
     let a = l .before .before in
     at-within (a .args .words .now) (chunksIn (a .args .words .now)) (a .pre .0) (l .loop .i) (omega arith) (l .loop .at) (l .loop .inv .1)
 
--- src/heads.rt:20:9
-add-i : tie.Need-add-i Inv-loop μ-loop
-add-i c = omega arith
-
--- src/heads.rt:17:5
-loop-less : tie.Need-loop-less Inv-loop μ-loop
-loop-less c = omega arith
-
--- src/heads.rt:17:5
 loop-again : tie.Need-loop-again Inv-loop μ-loop
 loop-again c =
     let l = c .before .before in
     let a = l .before .before in
     (omega arith, next-at (a .args .words .now) (chunksIn (a .args .words .now)) (a .pre .0) (l .loop .i) (omega arith) (l .loop .at) _ (l .loop .inv .1) (c .parts-at .ensures))
 
--- src/heads.rt:11:1
 returns : tie.Need-returns Inv-loop μ-loop
 returns c =
     let e : c .before .loop .i ≡ c .before .before .before .args .c = omega arith in
@@ -48,4 +36,4 @@ returns c =
 pub head-of-spec : {M : Type 1} → statement M
 head-of-spec =
     tie.close
-    (tie.spec Inv-loop μ-loop loop-holds parts-at-requires add-i loop-less loop-again returns)
+    (tie.spec Inv-loop μ-loop loop-holds parts-at-requires (λ c. omega arith) (λ c. omega arith) loop-again returns)

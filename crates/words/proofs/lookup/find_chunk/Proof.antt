@@ -13,18 +13,6 @@ use Rattle.words.proofs.LookupLaws.{accepted, refused-before, no-chunk,
 use Rattle.words.proofs.lookup.find_chunk.Statement.{statement}
 use Rattle.words.proofs.lookup.find_chunk.Tie as tie
 
-read-module-requires : tie.Need-read-module-requires
-read-module-requires c κs = search needs
-
-enum-known-reading : tie.Need-enum-known-reading
-enum-known-reading c = search needs
-
-enum-known-reading-2 : tie.Need-enum-known-reading-2
-enum-known-reading-2 c = search needs
-
-cast-if1 : tie.Need-cast-if1
-cast-if1 c = search needs
-
 returns : tie.Need-returns
 returns c =
     let r = c .before .before .before .before in
@@ -64,13 +52,5 @@ returns-3 c =
 pub find-chunk-spec : {M : Type 1} → statement M
 find-chunk-spec =
     tie.close
-    (tie.spec
-    read-module-requires
-    enum-known-reading
-    enum-known-reading-2
-    cast-if1
-    returns
-    head-of-requires
-    parts-at-requires
-    returns-2
+    (tie.spec (λ c κs. search needs) (λ c. search needs) (λ c. search needs) (λ c. search needs) returns head-of-requires parts-at-requires returns-2
     returns-3)

@@ -19,19 +19,6 @@ Inv-loop words from low high i₀ i =
 abbrev μ-loop : tie.MeasureT-loop
 μ-loop words from low high i₀ i = length words - i
 
--- src/parts.rt:23:5
-loop-holds : tie.Need-loop-holds Inv-loop μ-loop
-loop-holds c = omega arith
-
--- src/parts.rt:24:20
-mul-kind : tie.Need-mul-kind Inv-loop μ-loop
-mul-kind c = omega arith
-
--- src/parts.rt:24:20
-shared-slice-read-kind : tie.Need-shared-slice-read-kind Inv-loop μ-loop
-shared-slice-read-kind c = omega arith
-
--- src/parts.rt:26:13
 returns : tie.Need-returns Inv-loop μ-loop
 returns c =
     let l = c .before .before in
@@ -43,15 +30,6 @@ returns c =
     (λ w. omega (arith, run-above (a .low) (a .high) (a .words .now) i h (w .0 .left) (ltb-true _ _ (w .1 .taken))))
     (c .if1 .came)
 
--- src/parts.rt:28:9
-add-i : tie.Need-add-i Inv-loop μ-loop
-add-i c = omega arith
-
--- src/parts.rt:23:5
-loop-less : tie.Need-loop-less Inv-loop μ-loop
-loop-less c = omega arith
-
--- src/parts.rt:23:5
 loop-again : tie.Need-loop-again Inv-loop μ-loop
 loop-again c =
     let l = c .before .before .before in
@@ -59,7 +37,6 @@ loop-again c =
     let i = l .before .loop .i in
     omega (arith, run-more (a .low) (a .high) (a .words .now) i (l .loop-test .taken) (c .before .if1 .left) (ltb-false _ _ (c .if2 .left)))
 
--- src/parts.rt:18:1
 returns-2 : tie.Need-returns-2 Inv-loop μ-loop
 returns-2 c =
     let a = c .before .before .args in
@@ -68,14 +45,5 @@ returns-2 c =
 pub behind-run-spec : {M : Type 1} → statement M
 behind-run-spec =
     tie.close
-    (tie.spec
-    Inv-loop
-    μ-loop
-    loop-holds
-    mul-kind
-    shared-slice-read-kind
-    returns
-    add-i
-    loop-less
-    loop-again
+    (tie.spec Inv-loop μ-loop (λ c. omega arith) (λ c. omega arith) (λ c. omega arith) returns (λ c. omega arith) (λ c. omega arith) loop-again
     returns-2)

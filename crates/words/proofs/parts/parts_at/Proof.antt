@@ -8,32 +8,17 @@ use Rattle.words.proofs.RunLaws.{run-within}
 use Rattle.words.proofs.parts.parts_at.Statement.{statement}
 use Rattle.words.proofs.parts.parts_at.Tie as tie
 
--- src/parts.rt:38:33
-add-behind-run : tie.Need-add-behind-run
-add-behind-run c = search needs
-
--- src/parts.rt:38:9
-behind-run-requires : tie.Need-behind-run-requires
-behind-run-requires c κs = search needs
-
--- src/parts.rt:39:9
 behind-run-requires-2 : tie.Need-behind-run-requires-2
 behind-run-requires-2 c κs =
     let a = c .before .before .args in
     rw (c .behind-run .ensures) (run-within 202 203 (a .words .now) (a .at + 1) (omega arith))
 
--- src/parts.rt:40:9
 behind-run-requires-3 : tie.Need-behind-run-requires-3
 behind-run-requires-3 c κs =
     let a = c .before .before .before .args in
     let h = run-within 202 203 (a .words .now) (a .at + 1) (omega arith) in
     rw (c .behind-run2 .ensures) (run-within 0 65 (a .words .now) (c .before .behind-run .result) (rw (c .before .behind-run .ensures) h))
 
--- src/parts.rt:41:5
-parts-from-requires : tie.Need-parts-from-requires
-parts-from-requires c κs = search needs
-
--- src/parts.rt:34:1
 returns : tie.Need-returns
 returns c =
     let third = c .before in
@@ -42,10 +27,4 @@ returns c =
 pub parts-at-spec : {M : Type 1} → statement M
 parts-at-spec =
     tie.close
-    (tie.spec
-    add-behind-run
-    behind-run-requires
-    behind-run-requires-2
-    behind-run-requires-3
-    parts-from-requires
-    returns)
+    (tie.spec (λ c. search needs) (λ c κs. search needs) behind-run-requires-2 behind-run-requires-3 (λ c κs. search needs) returns)

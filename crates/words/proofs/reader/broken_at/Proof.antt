@@ -21,18 +21,6 @@ abbrev μ-loop : tie.MeasureT-loop
 loop-holds : tie.Need-loop-holds Inv-loop μ-loop
 loop-holds c = (c .before .pre .0, omega arith, refl)
 
-mul-step-on : tie.Need-mul-step-on Inv-loop μ-loop
-mul-step-on c = search needs
-
-shared-slice-read-step-on : tie.Need-shared-slice-read-step-on Inv-loop μ-loop
-shared-slice-read-step-on c = search needs
-
-step-on-requires : tie.Need-step-on-requires Inv-loop μ-loop
-step-on-requires c κs = search needs
-
-enum-known-next : tie.Need-enum-known-next Inv-loop μ-loop
-enum-known-next c = search needs
-
 enum-told : tie.Need-enum-told Inv-loop μ-loop
 enum-told c = search needs
 
@@ -40,9 +28,6 @@ returns : tie.Need-returns Inv-loop μ-loop
 returns c =
     let e = rw (c .enum-told .given .1) at (c .before .before .step-on .ensures) in
     sym (c .before .before .before .before .before .loop .inv .2 ∙ sticks _ _ _ (c .before .before .before .before .loop-test .taken) e)
-
-add-i : tie.Need-add-i Inv-loop μ-loop
-add-i c = search needs
 
 onward : (c : tie.After-known-told Inv-loop μ-loop) → let l = c .before .before .before .before .before .before in
     let ws = l .before .before .args .words .now in let t = stageOf (c .before .next .given .0 .0) in let i = l .loop .i in
@@ -57,16 +42,10 @@ run-on-requires c κs =
     let o = onward c in
     (o .0, c .before .before .before .before .before .before .before .before .pre .1, o .1)
 
-loop-less : tie.Need-loop-less Inv-loop μ-loop
-loop-less c = search needs
-
 loop-again : tie.Need-loop-again Inv-loop μ-loop
 loop-again c =
     let r = c .run-on .ensures in
     (r .0 .1, r .0 .2, c .before .before .before .before .before .before .before .loop .inv .2 ∙ onward (c .before) .2 ∙ r .1)
-
-may-end-requires : tie.Need-may-end-requires Inv-loop μ-loop
-may-end-requires c κs = search needs
 
 returns-2 : tie.Need-returns-2 Inv-loop μ-loop
 returns-2 c =
@@ -79,20 +58,5 @@ returns-3 c =
 pub broken-at-spec : {M : Type 1} → statement M
 broken-at-spec =
     tie.close
-    (tie.spec
-    Inv-loop
-    μ-loop
-    loop-holds
-    mul-step-on
-    shared-slice-read-step-on
-    step-on-requires
-    enum-known-next
-    enum-told
-    returns
-    add-i
-    run-on-requires
-    loop-less
-    loop-again
-    may-end-requires
-    returns-2
-    returns-3)
+    (tie.spec Inv-loop μ-loop loop-holds (λ c. search needs) (λ c. search needs) (λ c κs. search needs) (λ c. search needs) enum-told returns
+    (λ c. search needs) run-on-requires (λ c. search needs) loop-again (λ c κs. search needs) returns-2 returns-3)

@@ -3,14 +3,8 @@ use borrow.Author.Needs.{needs}
 use Rattle.words.proofs.reader.constant_next.Statement.{statement}
 use Rattle.words.proofs.reader.constant_next.Tie as tie
 
-is-constant-requires : tie.Need-is-constant-requires
-is-constant-requires c κs = search needs
-
 returns : tie.Need-returns
 returns c = rw (← c .before .is-constant .ensures, c .if1 .taken)
-
-is-constant-requires-2 : tie.Need-is-constant-requires-2
-is-constant-requires-2 c κs = search needs
 
 returns-2 : tie.Need-returns-2
 returns-2 c = rw (← c .before .before .before .is-constant .ensures, c .before .before .if1 .left, ← c .before .is-constant2 .ensures, c .if2 .taken)
@@ -20,4 +14,5 @@ returns-3 c = rw (← c .before .before .before .is-constant .ensures, c .before
 
 pub constant-next-spec : {M : Type 1} → statement M
 constant-next-spec =
-    tie.close (tie.spec is-constant-requires returns is-constant-requires-2 returns-2 returns-3)
+    tie.close
+    (tie.spec (λ c κs. search needs) returns (λ c κs. search needs) returns-2 returns-3)

@@ -4,15 +4,6 @@ use Rattle.words.proofs.ReaderLaws.{some-extra}
 use Rattle.words.proofs.reader.extra_next.Statement.{statement}
 use Rattle.words.proofs.reader.extra_next.Tie as tie
 
-returns : tie.Need-returns
-returns c = search needs
-
-is-extra-requires : tie.Need-is-extra-requires
-is-extra-requires c κs = search needs
-
-sub-t7 : tie.Need-sub-t7
-sub-t7 c = search needs
-
 returns-2 : tie.Need-returns-2
 returns-2 c = rw (some-extra _ _ _ (c .before .before .if1 .left), ← c .before .is-extra .ensures, c .if2 .taken)
 
@@ -20,4 +11,6 @@ returns-3 : tie.Need-returns-3
 returns-3 c = rw (some-extra _ _ _ (c .before .before .if1 .left), ← c .before .is-extra .ensures, c .if2 .left)
 
 pub extra-next-spec : {M : Type 1} → statement M
-extra-next-spec = tie.close (tie.spec returns is-extra-requires sub-t7 returns-2 returns-3)
+extra-next-spec =
+    tie.close
+    (tie.spec (λ c. search needs) (λ c κs. search needs) (λ c. search needs) returns-2 returns-3)

@@ -3,9 +3,6 @@ use borrow.Author.Needs.{needs}
 use Rattle.words.proofs.reader.in_extra.Statement.{statement}
 use Rattle.words.proofs.reader.in_extra.Tie as tie
 
-is-extra-requires : tie.Need-is-extra-requires
-is-extra-requires c κs = search needs
-
 returns : tie.Need-returns
 returns c = rw (← c .before .is-extra .ensures, c .if1 .taken)
 
@@ -13,4 +10,6 @@ returns-2 : tie.Need-returns-2
 returns-2 c = rw (← c .before .is-extra .ensures, c .if1 .left)
 
 pub in-extra-spec : {M : Type 1} → statement M
-in-extra-spec = tie.close (tie.spec is-extra-requires returns returns-2)
+in-extra-spec =
+    tie.close
+    (tie.spec (λ c κs. search needs) returns returns-2)

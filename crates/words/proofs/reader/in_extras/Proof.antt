@@ -3,20 +3,11 @@ use borrow.Author.Needs.{needs}
 use Rattle.words.proofs.reader.in_extras.Statement.{statement}
 use Rattle.words.proofs.reader.in_extras.Tie as tie
 
-extra-next-requires : tie.Need-extra-next-requires
-extra-next-requires c κs = search needs
-
 enum-told : tie.Need-enum-told
 enum-told c = search needs
 
-enum-told-2 : tie.Need-enum-told-2
-enum-told-2 c = search needs
-
 returns : tie.Need-returns
 returns c = rw (← c .before .before .extra-next .ensures, c .enum-told2 .given .1)
-
-chunk-next-requires : tie.Need-chunk-next-requires
-chunk-next-requires c κs = search needs
 
 returns-2 : tie.Need-returns-2
 returns-2 c = rw (← c .before .before .before .extra-next .ensures, c .before .enum-told .given .1) (c .chunk-next .ensures)
@@ -24,4 +15,4 @@ returns-2 c = rw (← c .before .before .before .extra-next .ensures, c .before 
 pub in-extras-spec : {M : Type 1} → statement M
 in-extras-spec =
     tie.close
-    (tie.spec extra-next-requires enum-told enum-told-2 returns chunk-next-requires returns-2)
+    (tie.spec (λ c κs. search needs) enum-told (λ c. search needs) returns (λ c κs. search needs) returns-2)

@@ -3,34 +3,16 @@ use borrow.Author.Needs.{needs}
 use Rattle.words.proofs.reader.in_ops.Statement.{statement}
 use Rattle.words.proofs.reader.in_ops.Tie as tie
 
-op-next-requires : tie.Need-op-next-requires
-op-next-requires c κs = search needs
-
 enum-told : tie.Need-enum-told
 enum-told c = search needs
 
-enum-told-2 : tie.Need-enum-told-2
-enum-told-2 c = search needs
-
 returns : tie.Need-returns
 returns c = rw (← c .before .before .op-next .ensures, c .enum-told2 .given .1)
-
-extra-next-requires : tie.Need-extra-next-requires
-extra-next-requires c κs = search needs
-
-enum-told-3 : tie.Need-enum-told-3
-enum-told-3 c = search needs
-
-enum-told-4 : tie.Need-enum-told-4
-enum-told-4 c = search needs
 
 returns-2 : tie.Need-returns-2
 returns-2 c =
     let b = c .before .before .before in
     rw (← b .before .before .op-next .ensures, b .enum-told .given .1, ← c .before .before .extra-next .ensures, c .enum-told4 .given .1)
-
-chunk-next-requires : tie.Need-chunk-next-requires
-chunk-next-requires c κs = search needs
 
 returns-3 : tie.Need-returns-3
 returns-3 c =
@@ -41,14 +23,5 @@ returns-3 c =
 pub in-ops-spec : {M : Type 1} → statement M
 in-ops-spec =
     tie.close
-    (tie.spec
-    op-next-requires
-    enum-told
-    enum-told-2
-    returns
-    extra-next-requires
-    enum-told-3
-    enum-told-4
-    returns-2
-    chunk-next-requires
-    returns-3)
+    (tie.spec (λ c κs. search needs) enum-told (λ c. search needs) returns (λ c κs. search needs) (λ c. search needs) (λ c. search needs) returns-2
+    (λ c κs. search needs) returns-3)

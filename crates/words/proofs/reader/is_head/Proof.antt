@@ -21,4 +21,6 @@ returns-2 : tie.Need-returns-2
 returns-2 c = rw (← second (c .before), c .if3 .left)
 
 pub is-head-spec : {M : Type 1} → statement M
-is-head-spec = tie.close (tie.spec returns returns-2)
+is-head-spec =
+    tie.close
+    (tie.spec returns returns-2)

@@ -4,12 +4,6 @@ use borrow.Author.Needs.{needs}
 use Rattle.words.proofs.reader.op_next.Statement.{statement}
 use Rattle.words.proofs.reader.op_next.Tie as tie
 
-is-op-requires : tie.Need-is-op-requires
-is-op-requires c κs = search needs
-
-add-t6 : tie.Need-add-t6
-add-t6 c = search needs
-
 returns : tie.Need-returns
 returns c = rw (add-one, ← c .before .is-op .ensures, c .if1 .taken)
 
@@ -17,4 +11,6 @@ returns-2 : tie.Need-returns-2
 returns-2 c = rw (← c .before .is-op .ensures, c .if1 .left)
 
 pub op-next-spec : {M : Type 1} → statement M
-op-next-spec = tie.close (tie.spec is-op-requires add-t6 returns returns-2)
+op-next-spec =
+    tie.close
+    (tie.spec (λ c κs. search needs) (λ c. search needs) returns returns-2)

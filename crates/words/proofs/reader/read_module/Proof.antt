@@ -23,22 +23,10 @@ returns c =
     let ws = c .before .before .args .words .now in
     ⊎-elim (λ w. no-words ws (w .taken)) (λ w. many-words ws (ltb-true 16384 _ (w .1 .taken))) (c .if1 .came)
 
-shared-slice-read-head : tie.Need-shared-slice-read-head
-shared-slice-read-head c = search needs
-
-is-head-requires : tie.Need-is-head-requires
-is-head-requires c κs = search needs
-
 returns-2 : tie.Need-returns-2
 returns-2 c =
     let ws = c .before .before .before .before .before .before .args .words .now in
     headless ws (short (c .before .before .before)) (sym (c .before .is-head .ensures) ∙ not-true _ (c .if3 .taken))
-
-broken-at-requires : tie.Need-broken-at-requires
-broken-at-requires c κs = search needs
-
-enum-known-broken : tie.Need-enum-known-broken
-enum-known-broken c = search needs
 
 enum-told : tie.Need-enum-told
 enum-told c = search needs
@@ -58,13 +46,4 @@ returns-4 c =
 pub read-module-spec : {M : Type 1} → statement M
 read-module-spec =
     tie.close
-    (tie.spec
-    returns
-    shared-slice-read-head
-    is-head-requires
-    returns-2
-    broken-at-requires
-    enum-known-broken
-    enum-told
-    returns-3
-    returns-4)
+    (tie.spec returns (λ c. search needs) (λ c κs. search needs) returns-2 (λ c κs. search needs) (λ c. search needs) enum-told returns-3 returns-4)

@@ -11,27 +11,9 @@ use Rattle.words.proofs.ValueLaws.{minus-one-less}
 use Rattle.words.proofs.values.signed_of.Statement.{statement}
 use Rattle.words.proofs.values.signed_of.Tie as tie
 
--- src/values.rt:27:9
-cast-result : tie.Need-cast-result
-cast-result c = search needs
-
--- src/values.rt:29:16
-sub-result : tie.Need-sub-result
-sub-result c = search needs
-
--- src/values.rt:29:15
-cast-result-2 : tie.Need-cast-result-2
-cast-result-2 c = search needs
-
--- src/values.rt:29:9
 sub-result-2 : tie.Need-sub-result-2
 sub-result-2 c = rw (minus-one-less (c .before .args .n) (omega arith) (omega arith)) (record { sfits = omega arith })
 
--- src/values.rt:23:1
-returns : tie.Need-returns
-returns c = search needs
-
--- src/values.rt:23:1
 returns-2 : tie.Need-returns-2
 returns-2 c =
     let n = c .before .args .n in
@@ -40,4 +22,5 @@ returns-2 c =
 
 pub signed-of-spec : {M : Type 1} → statement M
 signed-of-spec =
-    tie.close (tie.spec cast-result sub-result cast-result-2 sub-result-2 returns returns-2)
+    tie.close
+    (tie.spec (λ c. search needs) (λ c. search needs) (λ c. search needs) sub-result-2 (λ c. search needs) returns-2)

@@ -21,4 +21,6 @@ returns-3 : tie.Need-returns-3
 returns-3 c = rw (← first (c .before), c .if2 .left)
 
 pub is-constant-spec : {M : Type 1} → statement M
-is-constant-spec = tie.close (tie.spec returns returns-2 returns-3)
+is-constant-spec =
+    tie.close
+    (tie.spec returns returns-2 returns-3)

@@ -10,4 +10,6 @@ returns-2 : tie.Need-returns-2
 returns-2 c = rw (ne-eqb _ _ (c .if1 .left))
 
 pub is-extra-spec : {M : Type 1} → statement M
-is-extra-spec = tie.close (tie.spec returns returns-2)
+is-extra-spec =
+    tie.close
+    (tie.spec returns returns-2)

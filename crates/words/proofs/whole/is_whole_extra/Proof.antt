@@ -3,14 +3,10 @@ use borrow.Author.Needs.{needs}
 use Rattle.words.proofs.whole.is_whole_extra.Statement.{statement}
 use Rattle.words.proofs.whole.is_whole_extra.Tie as tie
 
-is-extra-requires : tie.Need-is-extra-requires
-is-extra-requires c κs = search needs
-
-is-extra-requires-2 : tie.Need-is-extra-requires-2
-is-extra-requires-2 c κs = search needs
-
 returns : tie.Need-returns
 returns c = rw (c .before .is-extra .ensures, c .is-extra2 .ensures)
 
 pub is-whole-extra-spec : {M : Type 1} → statement M
-is-whole-extra-spec = tie.close (tie.spec is-extra-requires is-extra-requires-2 returns)
+is-whole-extra-spec =
+    tie.close
+    (tie.spec (λ c κs. search needs) (λ c κs. search needs) returns)

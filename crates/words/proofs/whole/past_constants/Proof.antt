@@ -21,56 +21,17 @@ abbrev μ-loop : tie.MeasureT-loop
 loop-holds : tie.Need-loop-holds Inv-loop μ-loop
 loop-holds c = (omega arith, c .before .pre, λ n. refl)
 
-sub-loop : tie.Need-sub-loop Inv-loop μ-loop
-sub-loop c = search needs
-
-mul-is-whole-constant : tie.Need-mul-is-whole-constant Inv-loop μ-loop
-mul-is-whole-constant c = search needs
-
-shared-slice-read-is-whole-constant : tie.Need-shared-slice-read-is-whole-constant Inv-loop μ-loop
-shared-slice-read-is-whole-constant c = search needs
-
-add-is-whole-constant : tie.Need-add-is-whole-constant Inv-loop μ-loop
-add-is-whole-constant c = search needs
-
-mul-is-whole-constant-2 : tie.Need-mul-is-whole-constant-2 Inv-loop μ-loop
-mul-is-whole-constant-2 c = search needs
-
 shared-slice-read-is-whole-constant-2 :
     tie.Need-shared-slice-read-is-whole-constant-2 Inv-loop μ-loop
 shared-slice-read-is-whole-constant-2 c = search needs
-
-add-is-whole-constant-2 : tie.Need-add-is-whole-constant-2 Inv-loop μ-loop
-add-is-whole-constant-2 c = search needs
-
-mul-is-whole-constant-3 : tie.Need-mul-is-whole-constant-3 Inv-loop μ-loop
-mul-is-whole-constant-3 c = search needs
 
 shared-slice-read-is-whole-constant-3 :
     tie.Need-shared-slice-read-is-whole-constant-3 Inv-loop μ-loop
 shared-slice-read-is-whole-constant-3 c = search needs
 
-add-is-whole-constant-3 : tie.Need-add-is-whole-constant-3 Inv-loop μ-loop
-add-is-whole-constant-3 c = search needs
-
-mul-is-whole-constant-4 : tie.Need-mul-is-whole-constant-4 Inv-loop μ-loop
-mul-is-whole-constant-4 c = search needs
-
 shared-slice-read-is-whole-constant-4 :
     tie.Need-shared-slice-read-is-whole-constant-4 Inv-loop μ-loop
 shared-slice-read-is-whole-constant-4 c = search needs
-
-is-whole-constant-requires : tie.Need-is-whole-constant-requires Inv-loop μ-loop
-is-whole-constant-requires c κs = search needs
-
-returns : tie.Need-returns Inv-loop μ-loop
-returns c = search needs
-
-add-i : tie.Need-add-i Inv-loop μ-loop
-add-i c = search needs
-
-loop-less : tie.Need-loop-less Inv-loop μ-loop
-loop-less c = search needs
 
 loop-again : tie.Need-loop-again Inv-loop μ-loop
 loop-again c =
@@ -81,31 +42,10 @@ loop-again c =
           (rw (← c .before .is-whole-constant .ensures) (not-false _ (c .if1 .left))),
     )
 
-returns-2 : tie.Need-returns-2 Inv-loop μ-loop
-returns-2 c = search needs
-
 pub past-constants-spec : {M : Type 1} → statement M
 past-constants-spec =
     tie.close
-    (tie.spec
-    Inv-loop
-    μ-loop
-    loop-holds
-    sub-loop
-    mul-is-whole-constant
-    shared-slice-read-is-whole-constant
-    add-is-whole-constant
-    mul-is-whole-constant-2
-    shared-slice-read-is-whole-constant-2
-    add-is-whole-constant-2
-    mul-is-whole-constant-3
-    shared-slice-read-is-whole-constant-3
-    add-is-whole-constant-3
-    mul-is-whole-constant-4
-    shared-slice-read-is-whole-constant-4
-    is-whole-constant-requires
-    returns
-    add-i
-    loop-less
-    loop-again
-    returns-2)
+    (tie.spec Inv-loop μ-loop loop-holds (λ c. search needs) (λ c. search needs) (λ c. search needs) (λ c. search needs) (λ c. search needs)
+    shared-slice-read-is-whole-constant-2 (λ c. search needs) (λ c. search needs) shared-slice-read-is-whole-constant-3 (λ c. search needs)
+    (λ c. search needs) shared-slice-read-is-whole-constant-4 (λ c κs. search needs) (λ c. search needs) (λ c. search needs) (λ c. search needs)
+    loop-again (λ c. search needs))

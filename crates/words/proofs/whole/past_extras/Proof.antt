@@ -31,41 +31,11 @@ answers b =
 loop-holds : tie.Need-loop-holds Inv-loop μ-loop
 loop-holds c = (omega arith, c .before .pre, omega arith, λ n. refl)
 
-sub-loop : tie.Need-sub-loop Inv-loop μ-loop
-sub-loop c = search needs
-
 returns : tie.Need-returns Inv-loop μ-loop
 returns c = answers (c .before .before)
 
-mul-is-whole-extra : tie.Need-mul-is-whole-extra Inv-loop μ-loop
-mul-is-whole-extra c = search needs
-
-shared-slice-read-is-whole-extra : tie.Need-shared-slice-read-is-whole-extra Inv-loop μ-loop
-shared-slice-read-is-whole-extra c = search needs
-
-add-is-whole-extra : tie.Need-add-is-whole-extra Inv-loop μ-loop
-add-is-whole-extra c = search needs
-
-mul-is-whole-extra-2 : tie.Need-mul-is-whole-extra-2 Inv-loop μ-loop
-mul-is-whole-extra-2 c = search needs
-
-shared-slice-read-is-whole-extra-2 : tie.Need-shared-slice-read-is-whole-extra-2 Inv-loop μ-loop
-shared-slice-read-is-whole-extra-2 c = search needs
-
-is-whole-extra-requires : tie.Need-is-whole-extra-requires Inv-loop μ-loop
-is-whole-extra-requires c κs = search needs
-
 returns-2 : tie.Need-returns-2 Inv-loop μ-loop
 returns-2 c = answers (c .before .before .before .before .before .before)
-
-add-i : tie.Need-add-i Inv-loop μ-loop
-add-i c = search needs
-
-sub-left : tie.Need-sub-left Inv-loop μ-loop
-sub-left c = search needs
-
-loop-less : tie.Need-loop-less Inv-loop μ-loop
-loop-less c = search needs
 
 loop-again : tie.Need-loop-again Inv-loop μ-loop
 loop-again c =
@@ -83,21 +53,5 @@ returns-3 c = answers (c .before)
 pub past-extras-spec : {M : Type 1} → statement M
 past-extras-spec =
     tie.close
-    (tie.spec
-    Inv-loop
-    μ-loop
-    loop-holds
-    sub-loop
-    returns
-    mul-is-whole-extra
-    shared-slice-read-is-whole-extra
-    add-is-whole-extra
-    mul-is-whole-extra-2
-    shared-slice-read-is-whole-extra-2
-    is-whole-extra-requires
-    returns-2
-    add-i
-    sub-left
-    loop-less
-    loop-again
-    returns-3)
+    (tie.spec Inv-loop μ-loop loop-holds (λ c. search needs) returns (λ c. search needs) (λ c. search needs) (λ c. search needs) (λ c. search needs)
+    (λ c. search needs) (λ c κs. search needs) returns-2 (λ c. search needs) (λ c. search needs) (λ c. search needs) loop-again returns-3)

@@ -22,24 +22,6 @@ abbrev μ-loop : tie.MeasureT-loop
 loop-holds : tie.Need-loop-holds Inv-loop μ-loop
 loop-holds c = (omega arith, c .before .pre, λ k n. let none : k + (c .before .args .from - c .before .args .from) ≡ k = omega arith in rw none)
 
-mul-is-op : tie.Need-mul-is-op Inv-loop μ-loop
-mul-is-op c = search needs
-
-shared-slice-read-is-op : tie.Need-shared-slice-read-is-op Inv-loop μ-loop
-shared-slice-read-is-op c = search needs
-
-is-op-requires : tie.Need-is-op-requires Inv-loop μ-loop
-is-op-requires c κs = search needs
-
-returns : tie.Need-returns Inv-loop μ-loop
-returns c = search needs
-
-add-i : tie.Need-add-i Inv-loop μ-loop
-add-i c = search needs
-
-loop-less : tie.Need-loop-less Inv-loop μ-loop
-loop-less c = search needs
-
 loop-again : tie.Need-loop-again Inv-loop μ-loop
 loop-again c =
     let b = c .before .before .before .before in (
@@ -49,21 +31,8 @@ loop-again c =
           (rw (← c .before .is-op .ensures) (not-false _ (c .if1 .left))),
     )
 
-returns-2 : tie.Need-returns-2 Inv-loop μ-loop
-returns-2 c = search needs
-
 pub past-ops-spec : {M : Type 1} → statement M
 past-ops-spec =
     tie.close
-    (tie.spec
-    Inv-loop
-    μ-loop
-    loop-holds
-    mul-is-op
-    shared-slice-read-is-op
-    is-op-requires
-    returns
-    add-i
-    loop-less
-    loop-again
-    returns-2)
+    (tie.spec Inv-loop μ-loop loop-holds (λ c. search needs) (λ c. search needs) (λ c κs. search needs) (λ c. search needs) (λ c. search needs)
+    (λ c. search needs) loop-again (λ c. search needs))
