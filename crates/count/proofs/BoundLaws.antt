@@ -1,69 +1,112 @@
 -- The header, the tail and the body of a counted loop, told by the words that the code reads.
 -- Assumes nothing.
-use mathlib.Core.Path.{_≡_, refl, sym, _∙_}
-use mathlib.Core.Bool.{Bool, true, false, not, _&&_, and-false, and-assoc}
+use mathlib.Core.Path.{_≡_, refl, sym, ap, _∙_}
+use mathlib.Core.Bool.{Bool, true, false, not, _&&_, _||_, and-true, and-false, and-assoc}
 use mathlib.Core.List.{List}
-use Prim.Native.Nat.{ℕ, suc, _+_, _-_, _<_, _≤_}
+use Prim.Native.Nat.{ℕ, zero, suc, _+_, _-_, _<_, _≤_}
 use native.Mathlib.Numerals.{add-one}
 use native.Mathlib.Omega.{arith}
-use borrow.Author.Tests.{le-leb, lt-leb, leb-true, leb-false, eqb-true, not-true, not-false}
+use borrow.Author.Tests.{le-leb, lt-leb, leb-true, leb-false, eqb-true, eq-eqb, ne-eqb, not-true, not-false}
 use lib.Dec.{eqb, leb}
 use lib.ListN.{length, getD, List·getD-eq-default}
-use Rattle.rules.specs.Ops.{kind, opAt}
-use Rattle.rules.specs.Form.{Constant}
-use Rattle.rules.specs.Count.{isSetLocal, neverSets, hasTail}
-use Rattle.count.specs.Count.{hasIncrement}
-use Rattle.count.proofs.SearchLaws.{read-op}
+use Rattle.rules.specs.Kinds as K
+use Rattle.rules.specs.Limits.{noOp}
+use Rattle.rules.specs.Ops.{kind, fieldA, fieldB, opAt}
+use Rattle.rules.specs.Form.{Constant, other}
+use Rattle.rules.specs.Count.{isGetLocal, isSetLocal, isPositive, neverSets, hasIncrement, hasTail}
+use Rattle.rules.proofs.Flags.{both}
+use Rattle.words.proofs.OpLaws.{read-op}
 
 -- past the end there is no EndLoop
-pub end-within : (ops : List ℕ) (n : ℕ) {b : Bool} → b ≡ eqb (kind (opAt ops n)) 25 → not b ≡ false → n < length ops
-end-within ops n {b} e h = go (leb (length ops) n) refl (eqb-true (kind (opAt ops n)) 25 (sym e ∙ not-false b h))
+pub end-within : (ops : List ℕ) (n : ℕ) {b : Bool} → b ≡ eqb (kind (opAt ops n)) K.EndLoop → not b ≡ false → n < length ops
+end-within ops n {b} e h = go (leb (length ops) n) refl (eqb-true (kind (opAt ops n)) K.EndLoop (sym e ∙ not-false b h))
   where
-    go : (l : Bool) → leb (length ops) n ≡ l → kind (opAt ops n) ≡ 25 → n < length ops
-    go true l k = absurd (omega (arith, List·getD-eq-default ops 4294967295 (leb-true (length ops) n l)))
+    go : (l : Bool) → leb (length ops) n ≡ l → kind (opAt ops n) ≡ K.EndLoop → n < length ops
+    go true l k = absurd (omega (arith, List·getD-eq-default ops noOp (leb-true (length ops) n l)))
     go false l k = leb-false (length ops) n l
 
+-- neither of two slots is set by the n ops from a position on
+abbrev pub neither : List ℕ → ℕ → ℕ → ℕ → ℕ → Bool
+neither ops v e n i = neverSets ops v n i && neverSets ops e n i
+
+-- two tests of an op and of the rest, regrouped
+regroup : (a b c d : Bool) → ((not a && c) && (not b && d)) ≡ (not (a || b) && (c && d))
+regroup true b c d = refl
+regroup false true c d = and-false c
+regroup false false c d = refl
+
 -- the ops from a position up to an end
-module _ (ops : List ℕ) (s end at : ℕ) where
-  pub never-none : end ≤ at → neverSets ops s (end - at) at ≡ true
+module _ (ops : List ℕ) (v e end at : ℕ) where
+  pub never-none : end ≤ at → neither ops v e (end - at) at ≡ true
   unfolding neverSets
   never-none h = let z : end - at ≡ 0 = omega arith in rw z
 
-  pub never-next : at < end → end ≤ length ops
-      → neverSets ops s (end - at) at ≡ (not (isSetLocal s (getD ops at 0)) && neverSets ops s (end - (at + 1)) (at + 1))
+  pub never-next : at < end → end ≤ length ops → neither ops v e (end - at) at
+      ≡ (not (isSetLocal v (getD ops at 0) || isSetLocal e (getD ops at 0)) && neither ops v e (end - (at + 1)) (at + 1))
   unfolding neverSets
-  never-next h b = let z : end - at ≡ suc (end - (at + 1)) = omega arith in rw (z, add-one at, read-op ops at (omega arith))
+  never-next h b =
+      let z : end - at ≡ suc (end - (at + 1)) = omega arith in
+      let w = getD ops at 0 in
+      let n = end - suc at in
+      rw (z, add-one at, read-op ops at (omega arith)) (regroup (isSetLocal v w) (isSetLocal e w) (neverSets ops v n (suc at)) (neverSets ops e n (suc at)))
 
--- the tail by its parts
-unfoldable pub tailOf : List Constant → List ℕ → ℕ → ℕ → ℕ → ℕ → Bool
-tailOf cs ops p n v e =
-    leb (p + 10) n && eqb (kind (opAt ops n)) 25 && hasIncrement cs ops n v && neverSets ops e (n - (p + 5)) (p + 5)
-    && neverSets ops v (n - (p + 6)) (p + 5)
+-- one op more at the end
+never-last : (ops : List ℕ) (s m i : ℕ) → neverSets ops s (suc m) i ≡ (neverSets ops s m i && not (isSetLocal s (opAt ops (i + m))))
+unfolding neverSets
+never-last ops s zero i = let z : i + 0 ≡ i = omega arith in rw z (and-true (not (isSetLocal s (opAt ops i))))
+never-last ops s (suc m) i =
+    let z : i + suc m ≡ suc i + m = omega arith in
+    rw (never-last ops s m (suc i), z) (sym (and-assoc (not (isSetLocal s (opAt ops i))) (neverSets ops s m (suc i)) (not (isSetLocal s (opAt ops (suc i + m))))))
+
+-- a word that sets v sets e only if they are one
+sets-one : (w v e : ℕ) → isSetLocal v w ≡ true → isSetLocal e w ≡ eqb v e
+sets-one w v e h =
+    let k = both (eqb (kind w) K.SetLocal) (eqb (fieldA w) v) h in
+    rw (k .0, eqb-true (fieldA w) v (k .1))
+
+regroup-last : (y a q c : Bool) → ((y && (a && not q)) && c) ≡ (y && (not q && (c && a)))
+regroup-last false a q c = refl
+regroup-last true true true c = refl
+regroup-last true true false c = sym (and-true c)
+regroup-last true false true c = refl
+regroup-last true false false c = sym (and-false c)
 
 module _ (cs : List Constant) (ops : List ℕ) (p n v e : ℕ) where
-  pub tail-parts : hasTail cs ops p n v e ≡ tailOf cs ops p n v e
-  unfolding tailOf
-  tail-parts = simp and-assoc
+  abbrev closed : Bool
+  closed = leb (p + 10) n && eqb (kind (opAt ops n)) K.EndLoop
 
-  pub short-loop : n < p + 10 → tailOf cs ops p n v e ≡ false
-  unfolding tailOf
+  -- behind the increment v is set by the last op, so e is another slot, and one pass over the other ops is enough for both
+  pub tail-once : p + 10 ≤ n → hasTail cs ops p n v e ≡ (closed && hasIncrement cs ops n v && (not (eqb v e) && neither ops v e (n - (p + 6)) (p + 5)))
+  tail-once l = go (hasIncrement cs ops n v) refl
+    where
+      go : (b : Bool) → hasIncrement cs ops n v ≡ b
+          → (closed && b && neverSets ops e (n - (p + 5)) (p + 5) && neverSets ops v (n - (p + 6)) (p + 5))
+          ≡ (closed && b && (not (eqb v e) && neither ops v e (n - (p + 6)) (p + 5)))
+      go false k = rw (and-false closed)
+      go true k =
+          let m = n - (p + 6) in
+          let size : n - (p + 5) ≡ suc m = omega arith in
+          let last : p + 5 + m ≡ n - 1 = omega arith in
+          let step = opAt ops (n - 4) in
+          let adds =
+          isGetLocal v (opAt ops (n - 5)) && eqb (kind step) K.Const && isPositive (getD cs (fieldA step) other)
+          && eqb (kind (opAt ops (n - 3))) K.CheckedAdd && eqb (kind (opAt ops (n - 2))) K.PopN && eqb (fieldB (opAt ops (n - 2))) 2 in
+          let set = sets-one (opAt ops (n - 1)) v e (both adds (isSetLocal v (opAt ops (n - 1))) k .1) in
+          rw (size, never-last ops e m (p + 5), last, set) (regroup-last (closed && true) (neverSets ops e m (p + 5)) (eqb v e) (neverSets ops v m (p + 5)))
+
+  pub short-loop : n < p + 10 → hasTail cs ops p n v e ≡ false
   short-loop h = rw (lt-leb (p + 10) n h)
 
-  pub no-end : {b : Bool} → b ≡ eqb (kind (opAt ops n)) 25 → not b ≡ true → tailOf cs ops p n v e ≡ false
-  unfolding tailOf
+  pub no-end : {b : Bool} → b ≡ eqb (kind (opAt ops n)) K.EndLoop → not b ≡ true → hasTail cs ops p n v e ≡ false
   no-end {b} f h = simp (← f, not-true b h, and-false)
 
-  pub no-increment : {b : Bool} → b ≡ hasIncrement cs ops n v → not b ≡ true → tailOf cs ops p n v e ≡ false
-  unfolding tailOf
+  pub one-slot : p + 10 ≤ n → v ≡ e → hasTail cs ops p n v e ≡ false
+  one-slot l h = tail-once l ∙ rw (eq-eqb v e h, and-false)
+
+  pub no-increment : {b : Bool} → b ≡ hasIncrement cs ops n v → not b ≡ true → hasTail cs ops p n v e ≡ false
   no-increment {b} f h = rw (← f, not-true b h, and-false)
 
-  pub end-set : {b : Bool} → b ≡ neverSets ops e (n - (p + 5)) (p + 5) → not b ≡ true → tailOf cs ops p n v e ≡ false
-  unfolding tailOf
-  end-set {b} f h = rw (← f, not-true b h, and-false)
-
-  pub tail-decides : p + 10 ≤ n → {d : Bool} → d ≡ eqb (kind (opAt ops n)) 25 → not d ≡ false
-      → {a b c : Bool} → a ≡ hasIncrement cs ops n v → not a ≡ false → b ≡ neverSets ops e (n - (p + 5)) (p + 5) → not b ≡ false
-      → c ≡ neverSets ops v (n - (p + 6)) (p + 5) → tailOf cs ops p n v e ≡ c
-  unfolding tailOf
-  tail-decides l {d} f k {a} {b} {c} g h i j m =
-      rw (le-leb (p + 10) n l, ← f, not-false d k, ← g, not-false a h, ← i, not-false b j, ← m)
+  pub tail-decides : p + 10 ≤ n → {d : Bool} → d ≡ eqb (kind (opAt ops n)) K.EndLoop → not d ≡ false → (v ≡ e → ⊥)
+      → {a c : Bool} → a ≡ hasIncrement cs ops n v → not a ≡ false → c ≡ neither ops v e (n - (p + 6)) (p + 5) → hasTail cs ops p n v e ≡ c
+  tail-decides l {d} f k apart {a} {c} g h m =
+      tail-once l ∙ rw (le-leb (p + 10) n l, ← f, not-false d k, ne-eqb v e apart, ← g, not-false a h, ← m)

@@ -17,13 +17,8 @@ use Rattle.rules.specs.Outcome.{Found, found, nothing}
 use Rattle.rules.specs.Ops.{kind, fieldA, opAt}
 use Rattle.rules.specs.Form.{Constant, other}
 use Rattle.rules.specs.Count.{Value, unknown, isSetLocal, lastSet, arrayLength, arraySource, atArraySet}
+use Rattle.words.proofs.OpLaws.{read-op}
 use Rattle.rules.specs.Count.{constantValue, valueAt, valueBefore, valueOf, lenSource, lengthBefore}
-
--- in the list, the op is the word that a read of the slice gives
-pub read-op : (ops : List ℕ) (i : ℕ) → i < length ops → opAt ops i ≡ getD ops i 0
-read-op [] i h = absurd (omega arith)
-read-op (w ∷ ops) zero h = refl
-read-op (w ∷ ops) (suc i) h = read-op ops i (omega arith)
 
 -- a field as a signed number
 pub field-value : (w : ℕ) → toZ w64 (fieldA w) ≡ pos (fieldA w)

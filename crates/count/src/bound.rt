@@ -10,13 +10,14 @@ use words::limits::PASSES;
 use words::values::ConstValue;
 use words::values::constant_at;
 ghost use mathlib.Core.Path.{_≡_};
+ghost use mathlib.Core.Bool.{_&&_};
 ghost use Prim.Native.Nat.{_+_, _-_, _≤_, _<_};
 ghost use lib.ListN.{length, getD};
 ghost use Rattle.rules.specs.Limits.{mostWords};
 ghost use Rattle.rules.specs.Form.{other};
 ghost use Rattle.rules.specs.Reading.{constantsOf};
-ghost use Rattle.rules.specs.Count.{hasHeader, hasTail, neverSets, isPositive, passes, countAt};
-ghost use Rattle.count.specs.Count.{boundOf, hasIncrement};
+ghost use Rattle.rules.specs.Count.{hasHeader, hasIncrement, hasTail, neverSets, isPositive, passes, countAt};
+ghost use Rattle.count.specs.Count.{boundOf};
 
 // The greatest count, as a distance.
 const MOST_PASSES: i64 = PASSES as i64;
@@ -39,15 +40,16 @@ pub fn has_header(ops: &[u32], p: usize) -> bool
         & is_kind(ops, p + 4, kinds::BREAK_IF)
 }
 
-// None of the n ops from i on sets the slot.
-pub fn never_sets(ops: &[u32], slot: u32, n: usize, i: usize) -> bool
+// None of the n ops from i on sets v or e: one pass for both, ended at the first op that does.
+fn never_sets(ops: &[u32], v: u32, e: u32, n: usize, i: usize) -> bool
     requires { ⌜ i + n ≤ length (now ops) ⌝ }
-    ensures { λ r. ⌜ r ≡ neverSets (now (ops .entry)) slot n i ⌝ }
+    ensures { λ r. ⌜ r ≡ (neverSets (now (ops .entry)) v n i && neverSets (now (ops .entry)) e n i) ⌝ }
 {
     let end = i + n;
     let mut at = i;
     while at < end {
-        if is_of(ops[at], kinds::SET_LOCAL, slot) {
+        let w = ops[at];
+        if is_of(w, kinds::SET_LOCAL, v) | is_of(w, kinds::SET_LOCAL, e) {
             return false;
         }
         at += 1;
@@ -82,7 +84,8 @@ fn has_increment(constants: &[u32], ops: &[u32], n: usize, v: u32) -> bool
         & is_of(op_at(ops, n - 1), kinds::SET_LOCAL, v)
 }
 
-// The body of the loop at p, whose EndLoop is to be at n, advances v once, at its tail, and sets neither v elsewhere nor e.
+// The body of the loop at p, whose EndLoop is to be at n, advances v once, at its tail, and sets neither v elsewhere nor e. The op right before EndLoop sets v,
+// so v is not e, and of the other ops none sets either.
 pub fn loop_body_advances_induction(
     constants: &[u32],
     ops: &[u32],
@@ -97,13 +100,10 @@ pub fn loop_body_advances_induction(
     if n < p + 10 || !is_kind(ops, n, kinds::END_LOOP) {
         return false;
     }
-    if !has_increment(constants, ops, n, v) {
+    if v == e || !has_increment(constants, ops, n, v) {
         return false;
     }
-    if !never_sets(ops, e, n - (p + 5), p + 5) {
-        return false;
-    }
-    never_sets(ops, v, n - (p + 6), p + 5)
+    never_sets(ops, v, e, n - (p + 6), p + 5)
 }
 
 // How often a counter that goes up passes from start to stop, if that is at most 4,294,967,295.

@@ -1,5 +1,6 @@
 // Searches that run backward over the ops of a chunk.
 use words::fields;
+use words::found::Found;
 use words::kinds;
 use words::limits::NO_OP;
 use words::values::ConstValue;
@@ -13,13 +14,8 @@ ghost use Rattle.rules.specs.Form.{other};
 ghost use Rattle.rules.specs.Ops.{kind, fieldA, opAt};
 ghost use Rattle.rules.specs.Reading.{constantsOf};
 ghost use Rattle.rules.specs.Count.{lastSet, arrayLength, valueOf, constantValue};
-ghost use Rattle.count.specs.Count.{foundOf, valueIs};
-
-// A position, if there is one.
-pub enum Found {
-    At(usize),
-    Nothing,
-}
+ghost use Rattle.words.specs.Found.{foundOf};
+ghost use Rattle.count.specs.Count.{valueIs};
 
 // A value, if it is known.
 pub enum Value {

@@ -16,7 +16,7 @@ use Rattle.rules.specs.Reading.{constantsOf, extrasOf, extraAt}
 use Rattle.rules.specs.Count.{countAt}
 use Rattle.rules.specs.Cycles.{costliest, noteBreak, breakCost}
 use Rattle.rules.specs.Outcome.{ok, no, found, nothing}
-use Rattle.count.proofs.SearchLaws.{read-op}
+use Rattle.words.proofs.OpLaws.{read-op}
 use Rattle.cycles.specs.Answers.{breaksFrom, breaksOf, chargeAt}
 use Rattle.cycles.specs.declared.sums.Breaks.{Breaks}
 use Rattle.cycles.specs.declared.region.Cost.{Cost}

@@ -13,7 +13,7 @@ use Rattle.rules.specs.Kinds as K
 use Rattle.rules.specs.Ops.{kind, fieldA, opAt}
 use Rattle.rows.specs.Opens.{Opens, StepFits}
 use Rattle.rows.specs.declared.block.Block.the-variants.{Plain, Ends, Break, BreakIf, If, IfElse, Loop}
-use Rattle.rows.proofs.DecisionLaws.{op-at}
+use Rattle.words.proofs.OpLaws.{read-op}
 use Rattle.rows.proofs.Openings.{opens-plain, opens-return, opens-trap, opens-break, opens-break-if, opens-if, opens-else, opens-loop}
 
 module _ {ops : List ℕ} {i to : ℕ} (s : StepFits ops i to) where
@@ -21,7 +21,7 @@ module _ {ops : List ℕ} {i to : ℕ} (s : StepFits ops i to) where
   W = getD ops i 0
 
   read-here : opAt ops i ≡ W
-  read-here = op-at ops i (omega (arith, s .here, s .row .within))
+  read-here = read-op ops i (omega (arith, s .here, s .row .within))
 
   -- the op's kind, as the definitions read it
   here : {k : ℕ} → kind W ≡ k → kind (opAt ops i) ≡ k
@@ -44,7 +44,7 @@ module _ {ops : List ℕ} {i to : ℕ} (s : StepFits ops i to) where
   last = getD ops (fieldA W - 1) 0
 
   read-last : kind W ≡ K.If → opAt ops (fieldA W - 1) ≡ last
-  read-last k = op-at ops _ (omega (arith, if-reach k))
+  read-last k = read-op ops _ (omega (arith, if-reach k))
 
   pub at-else : kind W ≡ K.If → kind last ≡ K.Else → Opens ops i to (IfElse (fieldA W - 1) (fieldA last))
   at-else k e =

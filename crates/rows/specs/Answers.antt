@@ -6,17 +6,11 @@ use lib.Dec.{eqb, leb, ltb}
 use Rattle.rules.specs.Outcome as O
 use Rattle.rules.specs.Ops.{kind, fieldA}
 use Rattle.rules.specs.Rows as R
-use Rattle.rows.specs.declared.range.Found.{Found}
-use Rattle.rows.specs.declared.range.Found.the-variants.{At, Nothing}
 use Rattle.rows.specs.declared.range.Range.{Range}
 use Rattle.rows.specs.declared.range.RangeAnswer as A
 use Rattle.rows.specs.declared.check.Opening.{Opening}
 use Rattle.rows.specs.declared.check.Opening.the-variants.{Plain, Block, Loop, Crossed}
 use Rattle.rows.specs.declared.check.RowAnswer as W
-
-abbrev pub foundOf : Found → O.Found
-foundOf (At i) = O.found i
-foundOf Nothing = O.nothing
 
 abbrev pub rangeIs : Range → R.Range
 rangeIs g = record { from = g .from; to = g .to }
@@ -30,11 +24,9 @@ abbrev pub rowResult : W.RowAnswer → O.Result R.Range
 rowResult (W.the-variants.Is g) = O.ok (rangeIs g)
 rowResult (W.the-variants.Refused n p) = O.no n p
 
--- the range of a chunk of that type whose tests 3, 4, 5 and 6 hold
+-- the range of what may be walked, in a chunk of that type
 abbrev pub rangeRow : ℕ → List ℕ → O.Result R.Range
-rangeRow mode ops =
-    O.andThen (R.rangeBy (eqb mode 2) ops)
-    (λ g. O.andThen (R.forwardTargets ops) (λ u. O.andThen (R.rowOf ops g) (λ t. O.ok g)))
+rangeRow mode ops = O.andThen (R.walkable mode ops) (λ w. O.ok (w .range))
 
 abbrev pub blockIf : Bool → ℕ → Opening
 blockIf true e = Block e

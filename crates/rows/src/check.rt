@@ -1,10 +1,10 @@
 // The row check: one pass over a range, with the ends of the open blocks in an array.
-use crate::range::Found;
 use crate::range::Range;
 use crate::range::RangeAnswer;
 use crate::range::check_forward_control_flow_targets;
 use crate::range::range_of;
 use words::fields;
+use words::found::Found;
 use words::kinds;
 use words::refusals;
 ghost use mathlib.Core.Path.{_≡_};

@@ -1,18 +1,13 @@
 // The walked range of a chunk, and forward targets.
 use words::fields;
+use words::found::Found;
 use words::kinds;
 use words::refusals;
 ghost use mathlib.Core.Path.{_≡_};
-ghost use lib.Dec.{eqb};
 ghost use lib.ListN.{length};
 ghost use Rattle.rules.specs.Rows.{firstOf, rangeBy, isBackward, firstBackward};
-ghost use Rattle.rows.specs.Answers.{foundOf, rangeResult};
-
-// A position, if there is one.
-pub enum Found {
-    At(usize),
-    Nothing,
-}
+ghost use Rattle.words.specs.Found.{foundOf};
+ghost use Rattle.rows.specs.Answers.{rangeResult};
 
 // A stretch of positions, the end not included.
 pub struct Range {
@@ -40,11 +35,11 @@ fn first_of(ops: &[u32], kind: u32) -> Found
     Found::Nothing
 }
 
-// All ops, or in a Stream chunk (mode 2) those behind the first Stream and before the first Reset.
+// All ops, or in a Stream chunk those behind the first Stream and before the first Reset.
 pub fn range_of(mode: u32, ops: &[u32]) -> RangeAnswer
-    ensures { λ r. ⌜ rangeResult r ≡ rangeBy (eqb mode 2) (now (ops .entry)) ⌝ }
+    ensures { λ r. ⌜ rangeResult r ≡ rangeBy mode (now (ops .entry)) ⌝ }
 {
-    if mode != 2 {
+    if mode != kinds::STREAM_TYPE {
         return RangeAnswer::Is(Range {
             from: 0,
             to: ops.len(),

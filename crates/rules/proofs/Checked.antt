@@ -15,9 +15,9 @@ use Rattle.rules.specs.Cases.{AllHold, documented, settled, bytesIn}
 -- document 01's P cases
 pub documented-hold : AllHold documented
 unfolding flatMap inGroups brokenAt takeWhile dropWhile constantsOf extrasOf chunksOf parse firstOf firstBackward lastSet arrayLength neverSets rowCost rowHeight member calleesIn visitEach visit upFrom linesIn wordsOf digits linesText bytesIn
-documented-hold = (refl, (refl, (refl, (refl, (refl, (refl, (refl, (refl, (refl, (refl, (refl, (refl, (refl, (refl, tt))))))))))))))
+documented-hold = (refl, (refl, (refl, (refl, (refl, (refl, (refl, (refl, (refl, (refl, (refl, (refl, (refl, (refl, (refl, tt)))))))))))))))
 
 -- what was settled where its words leave a choice
 pub settled-hold : AllHold settled
 unfolding flatMap inGroups brokenAt takeWhile dropWhile constantsOf extrasOf chunksOf parse firstOf firstBackward lastSet arrayLength neverSets rowCost rowHeight member calleesIn visitEach visit upFrom linesIn wordsOf digits linesText bytesIn
-settled-hold = (refl, (refl, (refl, (refl, (refl, (refl, (refl, (refl, (refl, (refl, (refl, (refl, (refl, (refl, (refl, (refl, tt))))))))))))))))
+settled-hold = (refl, (refl, (refl, (refl, (refl, (refl, (refl, (refl, (refl, (refl, (refl, (refl, (refl, (refl, (refl, (refl, (refl, (refl, (refl, (refl, tt))))))))))))))))))))

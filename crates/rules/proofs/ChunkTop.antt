@@ -12,7 +12,6 @@ use Rattle.rules.specs.Outcome.{ok}
 use Rattle.rules.specs.Ops.{kind, fieldA, fieldB, figuresOf, inGroups, opAt}
 use Rattle.rules.specs.Form.{Chunk}
 use Rattle.rules.specs.Rows.{Shape, plain, trap, returns, ifTo, elseTo, endIf, loopTo, endLoop, breaks, breaksIf, calls, shapeOf}
-use Rattle.rules.specs.Rows.{rangeOf, forwardTargets}
 use Rattle.rules.specs.Count.{countOf}
 use Rattle.rules.specs.Limits.{deepest}
 use Rattle.rules.specs.Stack.{Height, Stack, rowHeight, bytesOf, calleeSlots, callRise, riseOf, moveOf, unlessTall}
@@ -21,7 +20,7 @@ use Rattle.rules.specs.Sheet.{Line, noLine}
 use Rattle.rules.specs.Paths.{Entry, rangeAt}
 use Rattle.rules.proofs.Answers.{from-ok}
 use Rattle.rules.proofs.Shapes.{shape-tells}
-use Rattle.rules.proofs.RowTree.{row-some, range-forward}
+use Rattle.rules.proofs.RowTree.{chunk-row}
 use Rattle.rules.proofs.Members.{In, in-head, in-tail}
 use Rattle.rules.proofs.SheetLines.{LineOf}
 use Rattle.rules.proofs.SignedOrder.{AtMost, sum-parts, minus-parts, greatest}
@@ -104,19 +103,17 @@ pub line-tall : (cs : List Chunk) (lines : List Line) (c : ℕ) → LineOf cs li
 line-tall cs lines c l =
     let ck = chunkAt cs c in
     let a = from-ok (rowHeight (riseOf ck (l .callees)) (moveOf ck) (countOf ck) (l .row) deepest (pos 0) 0 false) _ (l .climbed) in
-    let g = from-ok (rangeOf ck) _ (l .is-row) in
-    let t = from-ok (forwardTargets (ck .ops)) _ (g .2) in
     record {
       top = a .0 .peak;
       callees = l .callees;
       bytes = ap (λ (n : Line). n .bytes) (l .line) ∙ from-tall (leb (ck .locals + a .0 .peak) 134217727) (ck .locals) (a .0) (l .stack) (a .2);
       knows = l .known;
-      starts = rw (g .1)
-          (record {
+      starts =
+          record {
             part = whole;
             row = l .row;
-            is = (false, row-some (ck .ops) (g .0) (l .row) (range-forward ck (g .0) (g .1)) (t .2));
+            is = (false, chunk-row ck (l .row) (l .is-row) .is-row);
             covered = height-covers (riseOf ck (l .callees)) (moveOf ck) (countOf ck) (move-rise ck (l .callees)) (l .row) deepest (a .0) (a .1);
             placed = refl;
-          });
+          };
     }

@@ -6,33 +6,16 @@ use mathlib.Core.List.{List, [], _∷_}
 use Prim.Native.Nat.{ℕ, _+_, _≤_}
 use native.Mathlib.Omega.{arith}
 use lib.IntN.{pos}
-use Rattle.rules.specs.Outcome.{Result, ok, no, andThen}
-use Rattle.rules.specs.Ops.{opAt}
+use Rattle.rules.specs.Outcome.{ok}
 use Rattle.rules.specs.Form.{Chunk}
-use Rattle.rules.specs.Rows.{Row, IsRow, Range, rangeOf, forwardTargets, rowOf, chunkRow}
+use Rattle.rules.specs.Rows.{Row, chunkRow}
 use Rattle.rules.specs.Cycles.{unbroken, Cost, exactCost}
 use Rattle.rules.specs.Order.{chunkAt}
-use Rattle.rules.specs.Paths.{Way, Frame, Spot, here, over, rangeFound, rangeAt, go, begin, path, opCycles, pathCycles, EntryKept, KeepsCounts}
-use Rattle.rules.proofs.RowTree.{row-some, range-forward}
+use Rattle.rules.specs.Paths.{Way, Frame, Spot, here, over, rangeAt, go, begin, path, opCycles, pathCycles, EntryKept, KeepsCounts}
+use Rattle.rules.proofs.RowTree.{chunk-row}
 use Rattle.rules.proofs.Walked.{feeOf, CountedIn, chunk-walked}
 use Rattle.rules.proofs.Safe.{pricesOf, Keeps, Charged, behind-range}
 use Rattle.rules.proofs.RowSafe.{row-safe}
-
--- the range and the row of a chunk
-found-row : (c : Chunk) (r : Row) → chunkRow c ≡ ok r
-    → (rangeFound (rangeOf c) .from ≤ rangeFound (rangeOf c) .to) × IsRow (opAt (c .ops)) false (rangeFound (rangeOf c) .from) (rangeFound (rangeOf c) .to) r
-found-row c r h = in-range (rangeOf c) refl h
-  where
-    forward : (g : Range) (x : Result ℕ) → andThen x (λ u. rowOf (c .ops) g) ≡ ok r → rowOf (c .ops) g ≡ ok r
-    forward g (ok u) h = h
-    forward g (no n p) h = absurd (let z : _≡_ {A = ℕ} 0 1 = cc in omega arith)
-
-    in-range : (x : Result Range) → rangeOf c ≡ x → andThen x (λ g. andThen (forwardTargets (c .ops)) (λ u. rowOf (c .ops) g)) ≡ ok r
-        → (rangeFound x .from ≤ rangeFound x .to) × IsRow (opAt (c .ops)) false (rangeFound x .from) (rangeFound x .to) r
-    in-range (ok g) e h =
-        let le = range-forward c g e in
-        (le, row-some (c .ops) g r le (forward g (forwardTargets (c .ops)) h))
-    in-range (no n p) e h = absurd (let z : _≡_ {A = ℕ} 0 1 = cc in omega arith)
 
 -- The base: the price of an op is its cycles and its extra, and the condition is that the innermost entry keeps its count.
 module _ (cs : List Chunk) where
@@ -61,11 +44,11 @@ module _ (cs : List Chunk) where
 pub chunk-cycles : (cs : List Chunk) (c : ℕ) (r : Row) (k : Cost) → chunkRow (chunkAt cs c) ≡ ok r → exactCost (chunkAt cs c) r ≡ ok k
     → (ways : List Way) → KeepsCounts cs false (begin cs c) ways → pathCycles cs (path cs false (begin cs c) ways) ≤ k .cycles
 chunk-cycles cs c r k hr hk ways kept =
-    let w = found-row (chunkAt cs c) r hr in
+    let w = chunk-row (chunkAt cs c) r hr in
     let from = rangeAt cs c .from in
     let to = rangeAt cs c .to in
     let safe =
     row-safe (charged cs c) to r false from to 0 unbroken k [] 0 (k .cycles) (omega arith) (omega arith)
-    (w .1) (chunk-walked (chunkAt cs c) r k hk) tt
+    (w .is-row) (chunk-walked (chunkAt cs c) r k hk) tt
     (λ on. behind-range (charged cs c) to [] 0 (omega arith)) (λ m. tt) (omega arith) (pos 0) (pos 0) in
     rw (prices cs (path cs false (begin cs c) ways)) (safe ways (keeps cs (begin cs c) ways kept))

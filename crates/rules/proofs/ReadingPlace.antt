@@ -3,10 +3,12 @@
 use mathlib.Core.Path.{_≡_, refl, sym, ap, _∙_}
 use mathlib.Core.Logic.{_⊎_, inl, inr}
 use mathlib.Core.Bool.{Bool, true, false, cond}
-use mathlib.Core.List.{List, [], _∷_, _++_}
+use mathlib.Core.List.{List, [], _∷_, _++_, append-assoc}
 use Prim.Native.Nat.{ℕ, suc, _+_, _<_, _≤_}
 use native.Mathlib.Omega.{arith}
-use lib.ListN.{length, take}
+use borrow.Author.Tests.{ltb-true, ltb-false}
+use lib.Dec.{ltb}
+use lib.ListN.{length, take, drop, take-append-drop}
 use Rattle.rules.specs.Outcome.{Result, ok, no, Found, found, nothing}
 use Rattle.rules.specs.Ops.{fieldA, word}
 use Rattle.rules.specs.Form.{Chunk, CanGoOn}
@@ -113,3 +115,16 @@ place-none ws p e = place ws p e .2
 -- a first word that is wrong is refusal 1, never 2
 pub place-behind-head : (ws : List ℕ) (p : ℕ) → readAny ws ≡ no 2 p → 1 ≤ p
 place-behind-head ws p e = place ws p e .3
+
+front-goes-on : (n : ℕ) (ws : List ℕ) → CanGoOn ws → CanGoOn (take n ws)
+front-goes-on n ws g =
+    let (ending, cs, fits, words) = g in
+    (drop n ws ++ ending, cs, fits, words ∙ ap (λ (v : List ℕ). v ++ ending) (sym (take-append-drop n ws)) ∙ append-assoc (take n ws) (drop n ws) ending)
+
+-- "the length if it stops short": where some ending would make the whole list a module
+pub stops-short : (ws : List ℕ) (p : ℕ) → readAny ws ≡ no 2 p → CanGoOn ws → p ≡ length ws
+stops-short ws p e g = go (ltb p (length ws)) refl
+  where
+    go : (b : Bool) → ltb p (length ws) ≡ b → p ≡ length ws
+    go true t = absurd (place-none ws p e (ltb-true p (length ws) t) (front-goes-on (suc p) ws g))
+    go false t = omega (arith, place-some ws p e .0, ltb-false p (length ws) t)

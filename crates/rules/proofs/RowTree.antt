@@ -7,13 +7,16 @@ use native.Mathlib.Numerals.{sub-one}
 use native.Mathlib.Omega.{arith}
 use borrow.Author.Tests.{ltb-true, ltb-false, eqb-true, lt-ltb, le-ltb, ne-eqb}
 use lib.Dec.{eqb, ltb}
+use Rattle.rules.specs.Kinds as K
 use Rattle.rules.specs.Outcome.{ok, no, Found, found, nothing, andThen}
 use Rattle.rules.specs.Ops.{kind, fieldA, opAt}
 use Rattle.rules.specs.Form.{Chunk}
 use Rattle.rules.specs.Rows.{Shape, plain, trap, returns, ifTo, elseTo, endIf, loopTo, endLoop, breaks, breaksIf, calls, shapeOf}
 use Rattle.rules.specs.Rows.{Row, end, step, stop, leave, leaveIf, ifThen, ifElse, loop, Plain, Ending, IsRow, Parsed, row, crossed}
 use Rattle.rules.specs.Rows.{onRow, parsedIf, parseIf, parseElse, parseEither, parseLoop, parseOp, parseIn, parse}
-use Rattle.rules.specs.Rows.{Range, firstOf, orRefuse, rangeBy, rangeOf, orCrossed, rowOf}
+use Rattle.rules.specs.Rows.{Range, firstOf, orRefuse, rangeIf, rangeOf, forwardTargets, orCrossed, rowOf, walkable, chunkRow}
+use Rattle.rules.specs.Paths.{rangeFound}
+use Rattle.rules.proofs.Answers.{from-ok}
 use Rattle.rules.proofs.Flags.{both}
 use Rattle.rules.proofs.Shapes.{shape-tells, end-if-shape, end-loop-shape, else-shape}
 
@@ -272,7 +275,7 @@ row-some ops g r h e =
     go crossed k = absurd (let z : _≡_ {A = ℕ} 0 1 = cc in omega arith)
 
 pub range-forward : (c : Chunk) (g : Range) → rangeOf c ≡ ok g → g .from ≤ g .to
-range-forward c g e = go (eqb (c .type) 2) e
+range-forward c g e = go (eqb (c .type) K.StreamType) e
   where
     ends : (s n : Found) → andThen (orRefuse s 3) (λ s. andThen (orRefuse n 4) (λ r. ok (record { from = suc s; to = max (suc s) r }))) ≡ ok g
         → g .from ≤ g .to
@@ -280,6 +283,21 @@ range-forward c g e = go (eqb (c .type) 2) e
     ends (found s) nothing e = absurd (let z : _≡_ {A = ℕ} 0 1 = cc in omega arith)
     ends nothing n e = absurd (let z : _≡_ {A = ℕ} 0 1 = cc in omega arith)
 
-    go : (b : Bool) → rangeBy b (c .ops) ≡ ok g → g .from ≤ g .to
+    go : (b : Bool) → rangeIf b (c .ops) ≡ ok g → g .from ≤ g .to
     go true e = ends (firstOf 28 (c .ops) 0) (firstOf 29 (c .ops) 0) e
     go false e = let a : g .from ≡ 0 = cc in omega arith
+
+-- the row is the tree of the chunk's range
+pub record InRange (c : Chunk) (r : Row) : Type 0 where
+  pub forward : rangeFound (rangeOf c) .from ≤ rangeFound (rangeOf c) .to
+  pub is-row : IsRow (opAt (c .ops)) false (rangeFound (rangeOf c) .from) (rangeFound (rangeOf c) .to) r
+
+pub chunk-row : (c : Chunk) (r : Row) → chunkRow c ≡ ok r → InRange c r
+chunk-row c r e =
+    let w = from-ok (walkable (c .type) (c .ops)) _ e in
+    let g = from-ok (rangeOf c) _ (w .1) in
+    let t = from-ok (forwardTargets (c .ops)) _ (g .2) in
+    let s = from-ok (rowOf (c .ops) (g .0)) _ (t .2) in
+    let same : ok (s .0) ≡ ok r = cc (s .2, w .2) in
+    let le = range-forward c (g .0) (g .1) in
+    record { forward = rw (g .1) le; is-row = rw (g .1) (row-some (c .ops) (g .0) r le (s .1 ∙ same)) }

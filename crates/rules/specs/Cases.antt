@@ -6,13 +6,15 @@ use mathlib.Core.List.{List, [], _∷_, _++_}
 use Prim.Native.Nat.{ℕ, _+_, _-_, _/_, _%_, _^_}
 use Prim.Native.String.{String}
 use lib.IntN.{ℤ, pos, negsuc}
+use Rattle.rules.specs.Kinds as K
+use Rattle.rules.specs.Limits as M
 use Rattle.rules.specs.Outcome.{Outcome, answer, refused}
 use Rattle.rules.specs.Ops.{word}
 use Rattle.rules.specs.Form.{Constant, integer, other, Chunk, moduleWords}
 use Rattle.rules.specs.Cycles.{Cycles}
 use Rattle.rules.specs.Stack.{Stack, Delta, offset, ends}
-use Rattle.rules.specs.Sheet.{Sheet, readOutcome, cyclesOutcome, stackOutcome, orderOutcome, sheetOutcome}
-use Rattle.rules.specs.Text.{heading, newline, space, sheetText}
+use Rattle.rules.specs.Sheet.{Sheet, readOutcome, cyclesOutcome, stackOutcome, orderOutcome, lineWidth, sheetOutcome}
+use Rattle.rules.specs.Text.{textOf, sheetText}
 
 -- a case: what it is called, and what it says
 pub record Case : Type 1 where
@@ -24,6 +26,10 @@ abbrev pub AllHold : List Case → Type 0
 AllHold [] = Unit {0}
 AllHold (c ∷ cs) = c .claim × AllHold cs
 
+-- an op with b = 0
+abbrev pub op : ℕ → ℕ → ℕ
+op k a = word k 0 a
+
 -- a chunk of type Func
 abbrev pub func : ℕ → List Constant → List ℕ → List ℕ → Chunk
 func locals constants ops extras =
@@ -34,8 +40,8 @@ func locals constants ops extras =
 abbrev pub chunkL : ℤ → ℤ → ℤ → Chunk
 chunkL start stop step =
     func 2 (integer start ∷ integer stop ∷ integer step ∷ [])
-    (word 0 0 0 ∷ word 2 0 0 ∷ word 0 0 1 ∷ word 2 0 1 ∷ word 24 0 15 ∷ word 1 0 0 ∷ word 1 0 1 ∷ word 19 0 0 ∷ word 27 0 15
-    ∷ word 1 0 0 ∷ word 0 0 2 ∷ word 51 0 0 ∷ word 58 2 0 ∷ word 2 0 0 ∷ word 25 0 5 ∷ word 31 0 0 ∷ [])
+    (op K.Const 0 ∷ op K.SetLocal 0 ∷ op K.Const 1 ∷ op K.SetLocal 1 ∷ op K.Loop 15 ∷ op K.GetLocal 0 ∷ op K.GetLocal 1 ∷ op K.CmpGe 0 ∷ op K.BreakIf 15
+    ∷ op K.GetLocal 0 ∷ op K.Const 2 ∷ op K.CheckedAdd 0 ∷ word K.PopN 2 0 ∷ op K.SetLocal 0 ∷ op K.EndLoop 5 ∷ op K.Return 0 ∷ [])
     []
 
 -- a chunk alone as a module, in words and in bytes
@@ -51,26 +57,26 @@ abbrev pub one : ℕ → ℕ → ℕ → Outcome Sheet
 one c p b = answer (record { order = 0 ∷ []; lines = record { cycles = c; peak = p; bytes = b } ∷ [] })
 
 abbrev pub L : ℤ → Outcome Sheet
-L stop = sheetOutcome (alone (chunkL (pos 0) stop (pos 1))) 3
+L stop = sheetOutcome (alone (chunkL (pos 0) stop (pos 1))) lineWidth
 
 -- "`Const, If 4, Trap 0, Else 5, Yield, EndIf, Return`"
 abbrev pub endedArm : Chunk
-endedArm = func 0 [] (word 0 0 0 ∷ word 21 0 4 ∷ word 50 0 0 ∷ word 22 0 5 ∷ word 32 0 0 ∷ word 23 0 0 ∷ word 31 0 0 ∷ []) []
+endedArm = func 0 [] (op K.Const 0 ∷ op K.If 4 ∷ op K.Trap 0 ∷ op K.Else 5 ∷ op K.Yield 0 ∷ op K.EndIf 0 ∷ op K.Return 0 ∷ []) []
 
 -- "a Stream chunk with Reset before Stream"
 abbrev pub resetFirst : Chunk
-resetFirst = record { locals = 1; type = 2; constants = []; ops = word 29 0 0 ∷ word 32 0 0 ∷ word 28 0 0 ∷ word 32 0 0 ∷ []; extras = [] }
+resetFirst = record { locals = 1; type = K.StreamType; constants = []; ops = op K.Reset 0 ∷ op K.Yield 0 ∷ op K.Stream 0 ∷ op K.Yield 0 ∷ []; extras = [] }
 
 -- Yield with the greatest extra, and the same behind a Return
 abbrev pub openText : Chunk
-openText = func 0 [] (word 32 0 0 ∷ []) (4294967295 ∷ [])
+openText = func 0 [] (op K.Yield 0 ∷ []) (M.openText ∷ [])
 
 abbrev pub openTextBehind : Chunk
-openTextBehind = func 0 [] (word 31 0 0 ∷ word 32 0 0 ∷ []) (0 ∷ 4294967295 ∷ [])
+openTextBehind = func 0 [] (op K.Return 0 ∷ op K.Yield 0 ∷ []) (0 ∷ M.openText ∷ [])
 
 -- "no locals, one Call without arguments", and the same with so many locals
 abbrev pub oneCall : ℕ → Chunk
-oneCall locals = func locals [] (word 30 0 0 ∷ []) []
+oneCall locals = func locals [] (op K.Call 0 ∷ []) []
 
 -- what the walks of one chunk answer
 abbrev pub cycles : ℕ → Bool → Outcome Cycles
@@ -80,15 +86,26 @@ abbrev pub stack : ℕ → Delta → ℕ → Outcome Stack
 stack p d b = answer (record { peak = p; delta = d; bytes = b })
 
 abbrev pub sheet : Chunk → Outcome Sheet
-sheet c = sheetOutcome (alone c) 3
+sheet c = sheetOutcome (alone c) lineWidth
 
 -- The cases marked P, in the order of document 01.
 abbrev pub documented : List Case
 documented =
     record {
-      name = "L alone as a module: the printed text";
-      claim = sheetText (bytesIn (alone (chunkL (pos 0) (pos 3) (pos 1))))
-          ≡ heading ++ (48 ∷ space ∷ 52 ∷ 56 ∷ space ∷ 51 ∷ space ∷ 49 ∷ 54 ∷ 48 ∷ newline ∷ []);
+      name = "L alone as a module: the bytes read, and the bytes printed";
+      claim = sheetText
+          (1 ∷ 0 ∷ 0 ∷ 199 ∷ 2 ∷ 0 ∷ 0 ∷ 200 ∷ 0 ∷ 0 ∷ 0 ∷ 202 ∷ 0 ∷ 0 ∷ 1 ∷ 202 ∷ 0 ∷ 0 ∷ 2 ∷ 202
+          ∷ 0 ∷ 0 ∷ 3 ∷ 202 ∷ 3 ∷ 0 ∷ 0 ∷ 202 ∷ 0 ∷ 0 ∷ 1 ∷ 202 ∷ 0 ∷ 0 ∷ 2 ∷ 202 ∷ 0 ∷ 0 ∷ 3 ∷ 202
+          ∷ 1 ∷ 0 ∷ 0 ∷ 202 ∷ 0 ∷ 0 ∷ 1 ∷ 202 ∷ 0 ∷ 0 ∷ 2 ∷ 202 ∷ 0 ∷ 0 ∷ 3 ∷ 202 ∷ 0 ∷ 0 ∷ 0 ∷ 0
+          ∷ 0 ∷ 0 ∷ 0 ∷ 2 ∷ 1 ∷ 0 ∷ 0 ∷ 0 ∷ 1 ∷ 0 ∷ 0 ∷ 2 ∷ 15 ∷ 0 ∷ 0 ∷ 24 ∷ 0 ∷ 0 ∷ 0 ∷ 1
+          ∷ 1 ∷ 0 ∷ 0 ∷ 1 ∷ 0 ∷ 0 ∷ 0 ∷ 19 ∷ 15 ∷ 0 ∷ 0 ∷ 27 ∷ 0 ∷ 0 ∷ 0 ∷ 1 ∷ 2 ∷ 0 ∷ 0 ∷ 0
+          ∷ 0 ∷ 0 ∷ 0 ∷ 51 ∷ 0 ∷ 0 ∷ 2 ∷ 58 ∷ 0 ∷ 0 ∷ 0 ∷ 2 ∷ 5 ∷ 0 ∷ 0 ∷ 25 ∷ 0 ∷ 0 ∷ 0 ∷ 31 ∷ [])
+          ≡ 99 ∷ 104 ∷ 117 ∷ 110 ∷ 107 ∷ 32 ∷ 99 ∷ 121 ∷ 99 ∷ 108 ∷ 101 ∷ 115 ∷ 32 ∷ 112 ∷ 101 ∷ 97 ∷ 107 ∷ 32
+          ∷ 98 ∷ 121 ∷ 116 ∷ 101 ∷ 115 ∷ 10 ∷ 48 ∷ 32 ∷ 52 ∷ 56 ∷ 32 ∷ 51 ∷ 32 ∷ 49 ∷ 54 ∷ 48 ∷ 10 ∷ [];
+    }
+    ∷ record {
+      name = "L alone as a module: the text";
+      claim = sheetText (bytesIn (alone (chunkL (pos 0) (pos 3) (pos 1)))) ≡ textOf "chunk cycles peak bytes\n0 48 3 160\n";
     }
     ∷ record { name = "constant 1 made 0: 12 cycles"; claim = L (pos 0) ≡ one 12 3 160 }
     ∷ record { name = "made -1 (end below start): 12"; claim = L (negsuc 0) ≡ one 12 3 160 }
@@ -111,9 +128,12 @@ documented =
     ∷ record { name = "with one local: refusal 11"; claim = stackOutcome (alone (oneCall 1)) 0 (4294967295 ∷ []) ≡ refused 11 0 0 }
     ∷ []
 
--- a chunk of no locals and constants that calls these chunks
+-- chunks of no locals and no constants
 abbrev pub caller : List ℕ → Chunk
 caller ops = func 0 [] ops []
+
+abbrev pub stream : List ℕ → Chunk
+stream ops = record { locals = 0; type = K.StreamType; constants = []; ops = ops; extras = [] }
 
 -- Where the words of document 01 leave a choice, what was chosen (docs/DECISIONS.md has the readings by number), and the errors that it wants
 -- ruled out.
@@ -121,38 +141,41 @@ abbrev pub settled : List Case
 settled =
     record {
       name = "reading 1: the lent list alone decides, Call 1 over 0 and 64 bytes: peak 2";
-      claim = stackOutcome (alone (caller (word 30 0 1 ∷ []))) 0 (0 ∷ 64 ∷ []) ≡ stack 2 (offset (pos 1)) 64;
+      claim = stackOutcome (alone (caller (op K.Call 1 ∷ []))) 0 (0 ∷ 64 ∷ []) ≡ stack 2 (offset (pos 1)) 64;
     }
     ∷ record {
       name = "reading 2: the first word of the other kind is the bad word";
-      claim = readOutcome (word 199 0 1 ∷ word 200 0 0 ∷ word 202 0 5 ∷ word 203 1 0 ∷ []) ≡ refused 2 0 3;
+      claim = readOutcome (word K.Module 0 1 ∷ word K.Chunk 0 0 ∷ word K.Integer 0 5 ∷ word K.Other 1 0 ∷ []) ≡ refused 2 0 3;
     }
-    ∷ record { name = "reading 3: GetData with a = 1 is refusal 2"; claim = readOutcome (alone (caller (word 3 0 1 ∷ []))) ≡ refused 2 0 2 }
+    ∷ record { name = "reading 3: GetData with a = 1 is refusal 2"; claim = readOutcome (alone (caller (op K.GetData 1 ∷ []))) ≡ refused 2 0 2 }
     ∷ record { name = "reading 4: the chunk of refusal 12 is the index handed in"; claim = cyclesOutcome (alone (caller [])) 7 ≡ refused 12 7 0 }
     ∷ record {
       name = "reading 5: Stream and Reset themselves are not charged";
-      claim = sheet (record { locals = 0; type = 2; constants = []; ops = word 28 0 0 ∷ word 32 0 0 ∷ word 29 0 0 ∷ []; extras = [] }) ≡ one 1 0 0;
+      claim = sheet (stream (op K.Stream 0 ∷ op K.Yield 0 ∷ op K.Reset 0 ∷ [])) ≡ one 1 0 0;
     }
     ∷ record {
-      name = "reading 6: a Break before Stream is no matter, one between Stream and Reset is crossed";
-      claim = sheet (record { locals = 0; type = 2; constants = []; ops = word 26 0 0 ∷ word 28 0 0 ∷ word 26 0 0 ∷ word 29 0 0 ∷ []; extras = [] })
-          ≡ refused 6 0 0;
+      name = "reading 6: a Break between Stream and Reset is crossed";
+      claim = sheet (stream (op K.Break 0 ∷ op K.Stream 0 ∷ op K.Break 0 ∷ op K.Reset 0 ∷ [])) ≡ refused 6 0 0;
+    }
+    ∷ record {
+      name = "reading 6: a Break before Stream is no matter";
+      claim = sheet (stream (op K.Break 0 ∷ op K.Stream 0 ∷ op K.Yield 0 ∷ op K.Reset 0 ∷ [])) ≡ one 1 0 0;
     }
     ∷ record {
       name = "reading 7: Loop 4, Return, Break, EndLoop, Yield gives 3 cycles and ends";
-      claim = cyclesOutcome (alone (caller (word 24 0 4 ∷ word 31 0 0 ∷ word 26 0 0 ∷ word 25 0 0 ∷ word 32 0 0 ∷ []))) 0 ≡ cycles 3 true;
+      claim = cyclesOutcome (alone (caller (op K.Loop 4 ∷ op K.Return 0 ∷ op K.Break 0 ∷ op K.EndLoop 0 ∷ op K.Yield 0 ∷ []))) 0 ≡ cycles 3 true;
     }
     ∷ record {
       name = "reading 10: PopN 9, If 3, Const 0, EndIf has peak 1";
-      claim = stackOutcome (alone (caller (word 58 9 0 ∷ word 21 0 3 ∷ word 0 0 0 ∷ word 23 0 0 ∷ []))) 0 [] ≡ stack 1 (offset (negsuc 8)) 32;
+      claim = stackOutcome (alone (caller (word K.PopN 9 0 ∷ op K.If 3 ∷ op K.Const 0 ∷ op K.EndIf 0 ∷ []))) 0 [] ≡ stack 1 (offset (negsuc 8)) 32;
     }
     ∷ record {
       name = "reading 10: flat PopN 9, Const 0 has peak 0";
-      claim = stackOutcome (alone (caller (word 58 9 0 ∷ word 0 0 0 ∷ []))) 0 [] ≡ stack 0 (offset (negsuc 7)) 0;
+      claim = stackOutcome (alone (caller (word K.PopN 9 0 ∷ op K.Const 0 ∷ []))) 0 [] ≡ stack 0 (offset (negsuc 7)) 0;
     }
     ∷ record {
       name = "reading 13: a loop with no count and the greatest extra on its EndLoop is 9";
-      claim = sheet (func 0 [] (word 24 0 2 ∷ word 25 0 0 ∷ []) (0 ∷ 4294967295 ∷ [])) ≡ refused 9 0 0;
+      claim = sheet (func 0 [] (op K.Loop 2 ∷ op K.EndLoop 0 ∷ []) (0 ∷ M.openText ∷ [])) ≡ refused 9 0 0;
     }
     ∷ record {
       name = "reading 14: end below start, the difference outside 64 bits: count 0";
@@ -160,17 +183,27 @@ settled =
     }
     ∷ record {
       name = "reading 15: 0 calls 1, 1 calls 2, 2 calls 1: ring, chunk 1";
-      claim = orderOutcome (moduleWords (caller (word 30 0 1 ∷ []) ∷ caller (word 30 0 2 ∷ []) ∷ caller (word 30 0 1 ∷ []) ∷ [])) 3 ≡ refused 10 1 0;
+      claim = orderOutcome (moduleWords (caller (op K.Call 1 ∷ []) ∷ caller (op K.Call 2 ∷ []) ∷ caller (op K.Call 1 ∷ []) ∷ [])) 3 ≡ refused 10 1 0;
     }
-    ∷ record { name = "an If whose target is the length is refusal 6"; claim = sheet (caller (word 21 0 1 ∷ [])) ≡ refused 6 0 0 }
+    ∷ record { name = "an If whose target is the length is refusal 6"; claim = sheet (caller (op K.If 1 ∷ [])) ≡ refused 6 0 0 }
     ∷ record {
       name = "EndLoop is not charged to a body that never gets there; Loop's target may be the length";
-      claim = sheet (caller (word 24 0 3 ∷ word 26 0 0 ∷ word 25 0 0 ∷ [])) ≡ one 2 0 0;
+      claim = sheet (caller (op K.Loop 3 ∷ op K.Break 0 ∷ op K.EndLoop 0 ∷ [])) ≡ one 2 0 0;
     }
     ∷ record { name = "the count is not divided by the step"; claim = sheet (chunkL (pos 0) (pos 3) (pos 2)) ≡ one 48 3 160 }
     ∷ record {
       name = "an arm that has ended has no delta: Const 0, Const 0, If 5, Trap 0, Else 6, SetLocal 0, EndIf";
-      claim = stackOutcome (alone (caller (word 0 0 0 ∷ word 0 0 0 ∷ word 21 0 5 ∷ word 50 0 0 ∷ word 22 0 6 ∷ word 2 0 0 ∷ word 23 0 0 ∷ []))) 0 []
+      claim = stackOutcome (alone (caller (op K.Const 0 ∷ op K.Const 0 ∷ op K.If 5 ∷ op K.Trap 0 ∷ op K.Else 6 ∷ op K.SetLocal 0 ∷ op K.EndIf 0 ∷ []))) 0 []
           ≡ stack 2 (offset (pos 0)) 64;
+    }
+    ∷ record {
+      name = "a refusal as text: the loop of L without a count";
+      claim = sheetText (bytesIn (alone (chunkL (pos 0) (pos 4294967296) (pos 1)))) ≡ textOf "refused 9 0 4\n";
+    }
+    ∷ record { name = "a byte count that four doesn't divide is refusal 1"; claim = sheetText (1 ∷ 0 ∷ 0 ∷ 199 ∷ 0 ∷ []) ≡ textOf "refused 1 0 0\n" }
+    ∷ record {
+      name = "two chunks in call order: Call 1 and Yield";
+      claim = sheetText (bytesIn (moduleWords (caller (op K.Call 1 ∷ []) ∷ caller (op K.Yield 0 ∷ []) ∷ [])))
+          ≡ textOf "chunk cycles peak bytes\n1 1 0 0\n0 10 1 32\n";
     }
     ∷ []

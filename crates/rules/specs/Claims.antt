@@ -1,4 +1,4 @@
--- Demand 3 as types: what a sheet's lines say of every path. Its proof comes with the module sheet; here the claims are stated.
+-- Demand 3 as types: what a sheet's lines say of every path. proofs/Demand and proofs/StackBound have the proofs.
 use mathlib.Core.Path.{_≡_}
 use mathlib.Core.Bool.{true, false}
 use mathlib.Core.List.{List}
@@ -18,15 +18,16 @@ pub record Accepted (words : List ℕ) (room : ℕ) (cs : List Chunk) (s : Sheet
 abbrev pub lineAt : Sheet → ℕ → Line
 lineAt s c = getD (s .lines) c noLine
 
--- "the cycles of the path are at most its sheet's", counted up to the cap, with no callee run: for every path that keeps to its loops'
--- counts, whichever way each If and BreakIf goes and wherever it stops
+-- The cycles of a path that runs no callee, counted up to the cap, are at most its sheet's: for every path that keeps to its loops' counts,
+-- whichever way each If and BreakIf goes and wherever it stops.
 abbrev pub CyclesBounded : Type 0
 CyclesBounded =
     (words : List ℕ) (room : ℕ) (cs : List Chunk) (s : Sheet) → Accepted words room cs s → (c : ℕ) → c < length cs
     → (ways : List Way) → KeepsCounts cs false (begin cs c) ways
     → min cycleCap (pathCycles cs (path cs false (begin cs c) ways)) ≤ lineAt s c .cycles
 
--- "and, callees run, the stack bytes too": for every path whose whole passes and breaks leave no more than the depth at their entry
+-- The stack bytes of a path that runs its callees are at most its sheet's: for every path whose whole passes and breaks leave no more than the
+-- depth at their entry.
 abbrev pub StackBounded : Type 0
 StackBounded =
     (words : List ℕ) (room : ℕ) (cs : List Chunk) (s : Sheet) → Accepted words room cs s → (c : ℕ) → c < length cs

@@ -96,13 +96,18 @@ abbrev pub isPositive : Constant → Bool
 isPositive (integer z) = ltZ (pos 0) z
 isPositive other = false
 
--- "EndLoop, right before Loop's target, is at p + 10 or later, right behind GetLocal v, Const of an integer over 0, CheckedAdd, PopN 2,
--- SetLocal v; from p + 5 to it there is no SetLocal e and no other SetLocal v" (`loop_body_advances_induction`). EndLoop is at n.
-abbrev pub hasTail : List Constant → List ℕ → ℕ → ℕ → ℕ → ℕ → Bool
-hasTail constants ops p n v e =
-    leb (p + 10) n && eqb (kind (opAt ops n)) K.EndLoop && isGetLocal v (opAt ops (n - 5)) && eqb (kind (opAt ops (n - 4))) K.Const
+-- "right behind GetLocal v, Const of an integer over 0, CheckedAdd, PopN 2, SetLocal v": EndLoop is at n
+abbrev pub hasIncrement : List Constant → List ℕ → ℕ → ℕ → Bool
+hasIncrement constants ops n v =
+    isGetLocal v (opAt ops (n - 5)) && eqb (kind (opAt ops (n - 4))) K.Const
     && isPositive (getD constants (fieldA (opAt ops (n - 4))) other) && eqb (kind (opAt ops (n - 3))) K.CheckedAdd
     && eqb (kind (opAt ops (n - 2))) K.PopN && eqb (fieldB (opAt ops (n - 2))) 2 && isSetLocal v (opAt ops (n - 1))
+
+-- "EndLoop, right before Loop's target, is at p + 10 or later, right behind [the increment]; from p + 5 to it there is no SetLocal e and no
+-- other SetLocal v" (`loop_body_advances_induction`). EndLoop is at n.
+abbrev pub hasTail : List Constant → List ℕ → ℕ → ℕ → ℕ → ℕ → Bool
+hasTail constants ops p n v e =
+    leb (p + 10) n && eqb (kind (opAt ops n)) K.EndLoop && hasIncrement constants ops n v
     && neverSets ops e (n - (p + 5)) (p + 5) && neverSets ops v (n - (p + 6)) (p + 5)
 
 -- "none if that leaves signed 64 bits or passes 4,294,967,295"

@@ -1,7 +1,7 @@
 -- Document 01's names for the kinds of words. The code has the same names in `words::kinds`; cited as `K.If`.
 use Prim.Native.Nat.{ℕ}
 
--- "Ops as kind": those that a rule names; `Ops.table` has all.
+-- "Ops as kind": those that a rule or a case names; `Ops.table` has all.
 abbrev pub Const : ℕ
 Const = 0
 
@@ -10,6 +10,9 @@ GetLocal = 1
 
 abbrev pub SetLocal : ℕ
 SetLocal = 2
+
+abbrev pub GetData : ℕ
+GetData = 3
 
 abbrev pub CmpGe : ℕ
 CmpGe = 19
@@ -46,6 +49,9 @@ Call = 30
 
 abbrev pub Return : ℕ
 Return = 31
+
+abbrev pub Yield : ℕ
+Yield = 32
 
 abbrev pub NewComposite : ℕ
 NewComposite = 34
@@ -86,3 +92,7 @@ Other = 203
 
 abbrev pub Extra : ℕ
 Extra = 204
+
+-- "b: 0 Func, 1 Reentrant, 2 Stream": the type of a chunk
+abbrev pub StreamType : ℕ
+StreamType = 2

@@ -183,12 +183,16 @@ streamRange ops =
     andThen (orRefuse (firstOf K.Stream ops 0) N.noStream)
     (λ s. andThen (orRefuse (firstOf K.Reset ops 0) N.noReset) (λ r. ok (record { from = suc s; to = max (suc s) r })))
 
-abbrev pub rangeBy : Bool → List ℕ → Result Range
-rangeBy true ops = streamRange ops
-rangeBy false ops = ok (record { from = 0; to = length ops })
+abbrev pub rangeIf : Bool → List ℕ → Result Range
+rangeIf true ops = streamRange ops
+rangeIf false ops = ok (record { from = 0; to = length ops })
+
+-- of a chunk's type and its ops
+abbrev pub rangeBy : ℕ → List ℕ → Result Range
+rangeBy type ops = rangeIf (eqb type K.StreamType) ops
 
 abbrev pub rangeOf : Chunk → Result Range
-rangeOf c = rangeBy (eqb (c .type) 2) (c .ops)
+rangeOf c = rangeBy (c .type) (c .ops)
 
 -- "5 backward: any If, Else, Loop target not after it, or past the length": `n` is the length, i the position of the first op at hand
 abbrev pub hasTarget : ℕ → Bool
@@ -217,7 +221,16 @@ orCrossed crossed = no N.crossed 0
 abbrev pub rowOf : List ℕ → Range → Result Row
 rowOf ops g = orCrossed (parse (g .to - g .from) (opAt ops) false (g .from) (g .to))
 
--- The tests of a chunk before a walk, in their order: 3, 4, 5, 6.
+-- what may be walked: a range, and its tree
+pub record Walkable : Type 0 where
+  pub range : Range
+  pub tree : Row
+
+-- The tests before a walk, in their order: 3, 4, 5, 6; of a chunk's type and its ops.
+abbrev pub walkable : ℕ → List ℕ → Result Walkable
+walkable type ops =
+    andThen (rangeBy type ops)
+    (λ g. andThen (forwardTargets ops) (λ u. andThen (rowOf ops g) (λ r. ok (record { range = g; tree = r }))))
+
 abbrev pub chunkRow : Chunk → Result Row
-chunkRow c =
-    andThen (rangeOf c) (λ g. andThen (forwardTargets (c .ops)) (λ u. rowOf (c .ops) g))
+chunkRow c = andThen (walkable (c .type) (c .ops)) (λ w. ok (w .tree))

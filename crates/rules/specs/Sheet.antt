@@ -22,10 +22,12 @@ readModule ws = inChunk 0 (read ws)
 abbrev pub readOutcome : List ℕ → Outcome ℕ
 readOutcome ws = followedBy (readModule ws) (λ cs. answer (length cs))
 
--- "12 no such chunk: index too great, place 0": the chunk is the index handed in
+-- "12 no such chunk: index too great, place 0": the chunk is the index handed in; else what is asked of the chunks
+abbrev pub lookedUp : {A : Type 0} → List ℕ → ℕ → (List Chunk → A) → Outcome A
+lookedUp ws c ask = followedBy (readModule ws) (λ cs. inChunk c (demand (ltb c (length cs)) N.noSuchChunk 0 (ask cs)))
+
 abbrev pub chunkOutcome : List ℕ → ℕ → Outcome Chunk
-chunkOutcome ws c =
-    followedBy (readModule ws) (λ cs. inChunk c (demand (ltb c (length cs)) N.noSuchChunk 0 (chunkAt cs c)))
+chunkOutcome ws c = lookedUp ws c (λ cs. chunkAt cs c)
 
 -- "The count alone, for any position handed in, tests 1, 2, 12, 9, the place being that position."
 abbrev pub countOutcome : List ℕ → ℕ → ℕ → Outcome ℕ
@@ -54,7 +56,7 @@ orderOutcome ws room =
     followedBy (readModule ws)
     (λ cs. followedBy (withRoom room (length cs) cs) (λ ds. ringOutcome (callOrder ds)))
 
--- "what lies beyond is left"; "a refusal writes to no lent buffer"
+-- "what lies beyond is left"; a refusal leaves the tray as it was
 abbrev pub orderTray : Outcome (List ℕ) → List ℕ → List ℕ
 orderTray (answer order) tray = order ++ drop (length order) tray
 orderTray (refused n c p) tray = tray

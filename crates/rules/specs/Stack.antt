@@ -74,7 +74,7 @@ module _ (rise move : ℕ → ℤ) (count : ℕ → Result ℕ) where
   afterBody ends false i d peak broken rest = ok (height peak ends broken)
 
   -- A row with `left` levels of nesting left inside it, from the offset since its start, the peak so far and whether a break was met. Else,
-  -- EndIf and EndLoop grow by nothing, and the offset at them is below the peak already.
+  -- EndIf and EndLoop grow by nothing, and the offset at them is not above the peak.
   unfoldable pub rowHeight : Row → ℕ → ℤ → ℕ → Bool → Result Height
   rowHeight end left d peak broken = ok (height peak (offset d) broken)
   rowHeight (step i r) left d peak broken = rowHeight r left (behind d i) (during peak d i) broken

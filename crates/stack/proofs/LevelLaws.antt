@@ -16,7 +16,7 @@ use Rattle.rules.specs.Ops.{Figures, Group, kind, fieldA, fieldB, table, betwee
 use Rattle.rules.specs.Stack.{calleeSlots, callRise}
 use Rattle.stack.specs.declared.level.Effect.{Effect}
 use Rattle.stack.specs.declared.level.Level.{Level}
-use Rattle.count.proofs.SearchLaws.{read-op}
+use Rattle.words.proofs.OpLaws.{read-op}
 use Rattle.stack.specs.Levels.{effectAt, levelOver, SmallEffect, Small}
 use Rattle.stack.proofs.SignedLaws.{back, near-back, sum-near, sum-fits, sum-back, difference-near, difference-fits, difference-back}
 use Rattle.stack.proofs.SignedLaws.{raised, not-raised, at-least-zero-near, greater-near}

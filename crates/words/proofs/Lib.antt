@@ -1,5 +1,6 @@
 pub mod Table
 pub mod FigureLaws
+pub mod OpLaws
 pub mod ReaderLaws
 pub mod ValueLaws
 pub mod RunLaws

@@ -1,3 +1,4 @@
+pub mod Found
 pub mod Reader
 pub mod Parts
 pub mod Places

@@ -8,8 +8,6 @@ use Rattle.words.specs.declared.reader.Stage.{Stage}
 use Rattle.words.specs.declared.reader.Stage.the-variants.{BeforeChunk, InConstants, InConstant, InOps, InExtras, InExtra}
 use Rattle.words.specs.declared.reader.Next.{Next}
 use Rattle.words.specs.declared.reader.Next.the-variants.{Goes, Stuck}
-use Rattle.words.specs.declared.reader.Found.{Found}
-use Rattle.words.specs.declared.reader.Found.the-variants.{At, Nothing}
 
 -- the answer, by document 01's number and place; 1 and 2 name chunk 0
 abbrev pub readingOutcome : Reading → O.Outcome ℕ
@@ -27,10 +25,6 @@ stageOf (InExtra k n) = R.inExtra k n
 abbrev pub nextOf : Next → R.Next
 nextOf (Goes s) = R.goes (stageOf s)
 nextOf Stuck = R.stuck
-
-abbrev pub foundOf : Found → O.Found
-foundOf (At i) = O.found i
-foundOf Nothing = O.nothing
 
 -- what a stage counts up, so that one more fits
 abbrev pub counter : R.Stage → ℕ

@@ -54,3 +54,6 @@ pub const INTEGER: u32 = 202;
 pub const OTHER: u32 = 203;
 
 pub const EXTRA: u32 = 204;
+
+// The type of a chunk whose range lies between Stream and Reset.
+pub const STREAM_TYPE: u32 = 2;

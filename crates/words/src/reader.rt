@@ -1,6 +1,7 @@
 // The reader: whether words are a module, and if not, where the form is broken. It goes from stage to stage, and inside a stage past whole parts at once.
 use crate::fields;
 use crate::fields::is_op;
+use crate::found::Found;
 use crate::kinds;
 use crate::limits::CHUNKS;
 use crate::limits::WORDS;
@@ -17,7 +18,8 @@ ghost use Rattle.rules.specs.Limits.{mostWords};
 ghost use Rattle.rules.specs.Reading.{beforeChunk, inConstants, inConstant, inOps, inExtras, inExtra, isHead, isChunk};
 ghost use Rattle.rules.specs.Reading.{chunkNext, constantNext, opNext, extraNext, step, mayEnd, brokenAt};
 ghost use Rattle.rules.specs.Sheet.{readOutcome};
-ghost use Rattle.words.specs.Reader.{readingOutcome, stageOf, nextOf, foundOf, counter};
+ghost use Rattle.words.specs.Found.{foundOf};
+ghost use Rattle.words.specs.Reader.{readingOutcome, stageOf, nextOf, counter};
 
 // The reader's answer: the number of chunks, or refusal 1 or 2 with its place.
 pub enum Reading {
@@ -44,12 +46,6 @@ pub struct Place {
 pub enum Next {
     Goes(Stage),
     Stuck,
-}
-
-// A place, if there is one.
-pub enum Found {
-    At(usize),
-    Nothing,
 }
 
 // The chunk count as the head has it.

@@ -1,4 +1,4 @@
--- `never_sets` answers whether none of some ops sets the slot. The loop's invariant: what is left gives the whole.
+-- `never_sets` answers whether none of some ops sets either slot. The loop's invariant: what is left gives the whole.
 -- Assumes nothing.
 use mathlib.Core.Path.{_≡_, sym, _∙_}
 use Prim.Native.Nat.{_-_, _≤_}
@@ -6,37 +6,42 @@ use native.Mathlib.Nat.{add-sub-cancel-left}
 use native.Mathlib.Omega.{arith}
 use borrow.Author.Needs.{needs}
 use lib.ListN.{length}
-use Rattle.rules.specs.Count.{neverSets}
-use Rattle.count.proofs.BoundLaws.{never-none, never-next}
+use Rattle.count.proofs.BoundLaws.{neither, never-none, never-next}
 use Rattle.count.proofs.bound.never_sets.Statement.{statement}
 use Rattle.count.proofs.bound.never_sets.Tie as tie
 
 abbrev Inv-loop : tie.InvT-loop
-Inv-loop ops slot n i end at₀ at = (at ≤ end) × (end ≤ length ops) × (neverSets ops slot n i ≡ neverSets ops slot (end - at) at)
+Inv-loop ops v e n i end at₀ at = (at ≤ end) × (end ≤ length ops) × (neither ops v e n i ≡ neither ops v e (end - at) at)
 
 abbrev μ-loop : tie.MeasureT-loop
-μ-loop ops slot n i end at₀ at = end - at
+μ-loop ops v e n i end at₀ at = end - at
 
 loop-holds : tie.Need-loop-holds Inv-loop μ-loop
 loop-holds c = let a = c .before .args in (omega arith, omega arith, rw (add-sub-cancel-left (a .i) (a .n)))
 
 returns : tie.Need-returns Inv-loop μ-loop
 returns c =
-    let l = c .before .before .before in
+    let s = c .before in
+    let l = s .before .before .before in
     let v = l .before .loop .inv in
-    sym (v .2 ∙ never-next _ _ _ _ (l .loop-test .taken) (v .1) ∙ rw (← c .before .is-of .ensures, c .if1 .taken))
+    sym (v .2 ∙ never-next _ _ _ _ _ (l .loop-test .taken) (v .1) ∙ rw (← s .before .is-of .ensures, ← s .is-of2 .ensures, c .if1 .taken))
 
 loop-again : tie.Need-loop-again Inv-loop μ-loop
 loop-again c =
-    let l = c .before .before .before in
+    let s = c .before in
+    let l = s .before .before .before in
     let v = l .before .loop .inv in
-    (omega arith, omega arith, v .2 ∙ never-next _ _ _ _ (l .loop-test .taken) (v .1) ∙ rw (← c .before .is-of .ensures, c .if1 .left))
+    (
+      omega arith,
+      omega arith,
+      v .2 ∙ never-next _ _ _ _ _ (l .loop-test .taken) (v .1) ∙ rw (← s .before .is-of .ensures, ← s .is-of2 .ensures, c .if1 .left),
+    )
 
 returns-2 : tie.Need-returns-2 Inv-loop μ-loop
-returns-2 c = let v = c .before .loop .inv in sym (v .2 ∙ never-none _ _ _ _ (c .loop-test .left))
+returns-2 c = let v = c .before .loop .inv in sym (v .2 ∙ never-none _ _ _ _ _ (c .loop-test .left))
 
 pub never-sets-spec : {M : Type 1} → statement M
 never-sets-spec =
     tie.close
-    (tie.spec Inv-loop μ-loop (λ c. omega arith) loop-holds (λ c. omega arith) (λ c. omega arith) (λ c κs. search needs) returns (λ c. omega arith)
-    (λ c. omega arith) loop-again returns-2)
+    (tie.spec Inv-loop μ-loop (λ c. omega arith) loop-holds (λ c. omega arith) (λ c. omega arith) (λ c κs. search needs) (λ c κs. search needs) returns
+    (λ c. omega arith) (λ c. omega arith) loop-again returns-2)

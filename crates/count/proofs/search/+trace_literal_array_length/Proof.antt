@@ -13,7 +13,7 @@ use lib.Dec.{eqb}
 use lib.ListN.{getD}
 use Rattle.rules.specs.Ops.{kind, fieldB}
 use Rattle.rules.specs.Outcome.{found}
-use Rattle.count.specs.Count.{foundOf}
+use Rattle.words.specs.Found.{foundOf}
 use Rattle.count.proofs.SearchLaws.{SetAt, set-at, field-value, array-none, array-first, array-at}
 use Rattle.count.proofs.search.trace_literal_array_length.Reads as reads
 use Rattle.count.proofs.search.trace_literal_array_length.Kinds as kinds

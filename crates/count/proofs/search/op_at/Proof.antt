@@ -3,7 +3,7 @@
 use mathlib.Core.Path.{sym}
 use borrow.Author.Needs.{needs}
 use lib.ListN.{List·getD-eq-default}
-use Rattle.count.proofs.SearchLaws.{read-op}
+use Rattle.words.proofs.OpLaws.{read-op}
 use Rattle.count.proofs.search.op_at.Statement.{statement}
 use Rattle.count.proofs.search.op_at.Tie as tie
 

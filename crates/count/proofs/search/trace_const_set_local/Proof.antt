@@ -6,7 +6,7 @@ use native.Mathlib.Omega.{arith}
 use borrow.Author.Needs.{needs}
 use Rattle.rules.specs.Outcome.{found}
 use Rattle.rules.specs.Count.{valueAt}
-use Rattle.count.specs.Count.{foundOf}
+use Rattle.words.specs.Found.{foundOf}
 use Rattle.count.proofs.SearchLaws.{SetAt, set-at, value-constant, value-first, value-no-len, value-no-get, value-length}
 use Rattle.count.proofs.search.trace_const_set_local.Statement.{statement}
 use Rattle.count.proofs.search.trace_const_set_local.Tie as tie

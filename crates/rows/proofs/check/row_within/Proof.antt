@@ -8,7 +8,7 @@ use native.Mathlib.Omega.{arith}
 use borrow.Author.Needs.{needs}
 use lib.ListN.{length, getD}
 use Rattle.rules.specs.Ops.{opAt}
-use Rattle.rows.proofs.DecisionLaws.{op-at}
+use Rattle.words.proofs.OpLaws.{read-op}
 use Rattle.rows.proofs.OpenBlocks.{stack, boundOf, start, row-there, no-row}
 use Rattle.rows.proofs.BlockArray.{State, bound-none, bound-some, carried, sizes, all-closed, plain-next, crossed-next, open-room, open-next}
 use Rattle.rows.proofs.BlockArray.{AtEnd, some-block, some-loop, else-next, close-next, close-loop-next}
@@ -114,7 +114,7 @@ at-end c h =
       state = l .loop .inv;
       past = omega (arith, bound-is c);
       left = c .before .loop-test .taken;
-      here = op-at (l .before .before .before .args .ops .now) (l .loop .i) (omega arith);
+      here = read-op (l .before .before .before .args .ops .now) (l .loop .i) (omega arith);
     }
 
 sub-ends : tie.Need-sub-ends Inv-loop μ-loop
