@@ -118,7 +118,9 @@ pub fn passes_of(start: i64, stop: i64) -> Bound
             return Bound::Nothing;
         }
     }
-    Bound::Count((stop - start) as u32)
+    let distance = stop - start;
+    let passes = distance as u32;
+    Bound::Count(passes)
 }
 
 // The count of the loop at p.

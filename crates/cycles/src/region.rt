@@ -111,11 +111,12 @@ fn wcet_step(
     };
     let cost = cap_add(cycles, own);
     let block = block_at(ops, i);
+    let next = i + 1;
     match block {
-        Block::Plain => Step::Goes(i + 1, cost, breaks),
+        Block::Plain => Step::Goes(next, cost, breaks),
         Block::Ends => ended(cost, breaks),
         Block::Break => ended(cost, note_break(breaks, cost)),
-        Block::BreakIf => Step::Goes(i + 1, cost, note_break(breaks, cost)),
+        Block::BreakIf => Step::Goes(next, cost, note_break(breaks, cost)),
         Block::If(t) => wcet_if(constants, ops, extras, i, t, left, cost, breaks),
         Block::IfElse(e, f) => wcet_else(constants, ops, extras, i, e, f, left, cost, breaks),
         Block::Loop(e) => wcet_loop(constants, ops, extras, i, e, left, cost, breaks),
@@ -173,7 +174,8 @@ fn wcet_if(
         };
     };
     let noted = arm.breaks;
-    Step::Goes(t + 1, cap_add(cap_add(cost, arm.cycles), close), noted)
+    let next = t + 1;
+    Step::Goes(next, cap_add(cap_add(cost, arm.cycles), close), noted)
 }
 
 // Behind an If at i, charged already, with Else at e and EndIf at f: both arms, Else, and EndIf.

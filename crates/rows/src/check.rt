@@ -78,7 +78,7 @@ fn opens_at(ops: &[u32], i: usize, to: usize, in_loop: bool) -> Opening
     if k == kinds::LOOP {
         return opens_loop(ops, i, t, to);
     }
-    if kinds::BREAK <= k && in_loop {
+    if (kinds::BREAK <= k) & in_loop {
         return Opening::Plain;
     }
     Opening::Crossed

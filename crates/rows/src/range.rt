@@ -53,13 +53,11 @@ pub fn range_of(mode: u32, ops: &[u32]) -> RangeAnswer
     let Found::At(r) = reset else {
         return RangeAnswer::Refused(refusals::NO_RESET);
     };
+    let from = s + 1;
     if r <= s {
-        return RangeAnswer::Is(Range {
-            from: s + 1,
-            to: s + 1,
-        });
+        return RangeAnswer::Is(Range { from, to: from });
     }
-    RangeAnswer::Is(Range { from: s + 1, to: r })
+    RangeAnswer::Is(Range { from, to: r })
 }
 
 // The target of the op w at i is not behind it, or past the length n.

@@ -1,3 +1,4 @@
+pub mod Checked
 pub mod Flags
 pub mod WordFields
 pub mod ConstantWords
@@ -30,6 +31,5 @@ pub mod Safe
 pub mod RowSafe
 pub mod CyclesBound
 pub mod Demand
-pub mod Checked
 pub mod Witness
 pub mod CalleeWitness

@@ -39,7 +39,9 @@ fn lift_peak(l: Level, peak: Slots) -> Slots
     if l.offset < 0 {
         return peak;
     }
-    Slots((l.offset as u32) + peak.0)
+    let offset = l.offset as u32;
+    let lifted = offset + peak.0;
+    Slots(lifted)
 }
 
 // A part's delta, moved by the offset at which the part begins.
@@ -48,7 +50,10 @@ fn lift_delta(l: Level, d: Delta) -> Delta
     ensures { λ r. ⌜ deltaOf r ≡ partDelta (l .offset) (deltaOf d) ⌝ }
 {
     match d {
-        Delta::Offset(x) => Delta::Offset(l.offset + x),
+        Delta::Offset(x) => {
+            let offset = l.offset + x;
+            Delta::Offset(offset)
+        }
         Delta::Ends => Delta::Ends,
     }
 }

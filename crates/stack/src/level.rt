@@ -77,9 +77,10 @@ pub fn level_over(l: Level, e: Effect) -> Level
     let broken = l.broken;
     let peak = l.peak.0;
     if (peak as i64) < during {
+        let higher = during as u32;
         return Level {
             offset,
-            peak: Slots(during as u32),
+            peak: Slots(higher),
             broken,
         };
     }

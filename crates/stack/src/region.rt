@@ -129,11 +129,12 @@ fn wcmu_step(
     let behind = level_over(level, op_effect(ops, callees, i));
     let peak = behind.peak;
     let block = block_at(ops, i);
+    let next = i + 1;
     match block {
-        Block::Plain => Step::Goes(i + 1, behind),
+        Block::Plain => Step::Goes(next, behind),
         Block::Ends => ended(peak, behind.broken),
         Block::Break => ended(peak, true),
-        Block::BreakIf => Step::Goes(i + 1, marked(behind, true)),
+        Block::BreakIf => Step::Goes(next, marked(behind, true)),
         Block::If(t) => wcmu_if(constants, ops, callees, i, t, left, behind),
         Block::IfElse(e, f) => wcmu_else(constants, ops, callees, i, e, f, left, behind),
         Block::Loop(e) => wcmu_loop(constants, ops, callees, i, e, left, behind),
@@ -276,5 +277,6 @@ fn wcmu_loop(
             place: i,
         };
     };
-    Step::Goes(e + 1, after)
+    let next = e + 1;
+    Step::Goes(next, after)
 }

@@ -218,8 +218,10 @@ fn run_on(words: &[u32], from: usize, s: Stage) -> Place
         },
         Stage::InOps(k, n) => {
             let at = past_ops(words, from);
+            let passed = (at - from) as u32;
+            let behind = k + passed;
             Place {
-                stage: Stage::InOps(k + (at - from) as u32, n),
+                stage: Stage::InOps(behind, n),
                 at,
             }
         }

@@ -30,8 +30,7 @@ loop-again : tie.Need-loop-again Inv-loop μ-loop
 loop-again c =
     let s = c .before in
     let l = s .before .before .before in
-    let v = l .before .loop .inv in
-    (
+    let v = l .before .loop .inv in (
       omega arith,
       omega arith,
       v .2 ∙ never-next _ _ _ _ _ (l .loop-test .taken) (v .1) ∙ rw (← s .before .is-of .ensures, ← s .is-of2 .ensures, c .if1 .left),

@@ -37,11 +37,11 @@ near c =
           (c .if2 .came),
     )
 
-sub-t6 : tie.Need-sub-t6
-sub-t6 c = let f = c .before .before .fits in difference-fits _ _ (f .start) (f .stop) (near c .0) (near c .1)
+sub-distance : tie.Need-sub-distance
+sub-distance c = let f = c .before .before .fits in difference-fits _ _ (f .start) (f .stop) (near c .0) (near c .1)
 
-cast-t7 : tie.Need-cast-t7
-cast-t7 c =
+cast-passes : tie.Need-cast-passes
+cast-passes c =
     let f = c .before .before .fits in
     let n = near c in
     rw (difference-back _ _ (f .start) (f .stop) (n .0) (n .1)) (tt, record { fits = omega arith })
@@ -54,4 +54,4 @@ returns-3 c =
 pub passes-of-spec : {M : Type 1} → statement M
 passes-of-spec =
     tie.close
-    (tie.spec returns add-if3 returns-2 sub-t6 cast-t7 returns-3)
+    (tie.spec returns add-if3 returns-2 sub-distance cast-passes returns-3)

@@ -187,8 +187,8 @@ wcet-if-returns-2 t c to h =
     if-open h (a .constants .now) (a .extras .now) (a .left) (a .cost) (a .breaks) _ (w .wcet-part .ensures) _ (f .part .given .1)
     _ (o .op-wcet-cycles .ensures) (c .enum-told .given .1)
 
-wcet-if-add-t : wcet-if-need wcet-if-lts.Need-add-t17
-wcet-if-add-t t c = omega (arith, if-within (c .before .before .before .before .before .before .before .before .before .before .before .before .pre .1 .1))
+wcet-if-add-next : wcet-if-need wcet-if-lts.Need-add-next
+wcet-if-add-next t c = omega (arith, if-within (c .before .before .before .before .before .before .before .before .before .before .before .before .pre .1 .1))
 
 wcet-if-returns-3 : wcet-if-need wcet-if-lts.Need-returns-3
 wcet-if-returns-3 t c to h =
@@ -347,11 +347,10 @@ wcet-step-charged t c to h =
 wcet-step-block-at-requires : wcet-step-need wcet-step-lts.Need-block-at-requires
 wcet-step-block-at-requires t c κs = c .before .before .before .before .before .before .before .before .pre .1
 
-wcet-step-add-plain : wcet-step-need wcet-step-lts.Need-add-t17
-wcet-step-add-plain t c = let p = c .before .before .before .before .before .before .before .before .before .before .before .pre .1 .1 in omega (arith, p .here, p .row .within, p .row .short)
-
-wcet-step-add-break-if : wcet-step-need wcet-step-lts.Need-add-t19
-wcet-step-add-break-if t c = let p = c .before .before .before .before .before .before .before .before .before .before .before .pre .1 .1 in omega (arith, p .here, p .row .within, p .row .short)
+wcet-step-add-next : wcet-step-need wcet-step-lts.Need-add-next
+wcet-step-add-next t c =
+    let p = c .before .before .before .before .before .before .before .before .before .pre .1 .1 in
+    omega (arith, p .here, p .row .within, p .row .short)
 
 wcet-step-wcet-if-requires : wcet-step-need wcet-step-lts.Need-wcet-if-requires
 wcet-step-wcet-if-requires t c κs =
@@ -425,7 +424,7 @@ pub +wcet-else+wcet-if+wcet-loop+wcet-part+wcet-region-at+wcet-step-spec :
     (wcet-else-join-arms-requires t) (wcet-else-returns-3 t))
     (λ t. wcet-if-lts.spec (wcet-if-calls t) (wcet-if-at t) wcet-if.Post
     (wcet-if-add-wcet-part t) (wcet-if-wcet-part-requires t) (λ c. search needs) (λ c. search needs) (wcet-if-returns t)
-    (wcet-if-op-wcet-cycles-requires t) (λ c. search needs) (λ c. search needs) (wcet-if-returns-2 t) (wcet-if-add-t t) (λ c κs. tt) (λ c κs. tt)
+    (wcet-if-op-wcet-cycles-requires t) (λ c. search needs) (λ c. search needs) (wcet-if-returns-2 t) (wcet-if-add-next t) (λ c κs. tt) (λ c κs. tt)
     (wcet-if-returns-3 t))
     (λ t. wcet-loop-lts.spec (wcet-loop-calls t) (wcet-loop-at t) wcet-loop.Post
     (wcet-loop-add-wcet-part t) (wcet-loop-wcet-part-requires t) (λ c. search needs) (λ c. search needs) (wcet-loop-returns t)
@@ -440,7 +439,7 @@ pub +wcet-else+wcet-if+wcet-loop+wcet-part+wcet-region-at+wcet-step-spec :
     (wcet-region-at-returns-3 t))
     λ t. wcet-step-lts.spec (wcet-step-calls t) (wcet-step-at t) wcet-step.Post
     (wcet-step-op-wcet-cycles-requires t) (λ c. search needs) (λ c. search needs) (wcet-step-returns t) (λ c κs. tt) (wcet-step-block-at-requires t)
-    (λ c. search needs) (wcet-step-add-plain t) (λ c. search needs) (λ c κs. tt) (λ c. search needs) (λ c κs. tt) (λ c κs. tt)
-    (λ c. search needs) (wcet-step-add-break-if t) (λ c κs. tt) (λ c. search needs) (wcet-step-wcet-if-requires t) (λ c. search needs)
+    (wcet-step-add-next t) (λ c. search needs) (λ c. search needs) (λ c κs. tt) (λ c. search needs) (λ c κs. tt) (λ c κs. tt)
+    (λ c. search needs) (λ c κs. tt) (λ c. search needs) (wcet-step-wcet-if-requires t) (λ c. search needs)
     (wcet-step-wcet-else-requires t) (λ c. search needs) (wcet-step-wcet-loop-requires t) (wcet-step-returns-2 t) (wcet-step-returns-3 t)
     (wcet-step-returns-4 t) (wcet-step-returns-5 t) (wcet-step-returns-6 t) (wcet-step-returns-7 t) (wcet-step-returns-8 t)

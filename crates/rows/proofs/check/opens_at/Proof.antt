@@ -1,9 +1,8 @@
 -- `opens_at` is `opensAt`. Assumes nothing.
 use mathlib.Core.Path.{_∙_}
-use mathlib.Core.Bool.{true, false, and-false}
+use mathlib.Core.Bool.{true, false}
 use mathlib.Core.Logic.{⊎-elim}
 use native.Mathlib.Omega.{arith}
-use borrow.Author.Tests.{le-leb, lt-leb}
 use borrow.Author.Needs.{needs}
 use Rattle.rows.proofs.DecisionLaws.{low, high, at-if, at-loop, at-other}
 use Rattle.rows.proofs.check.opens_at.Statement.{statement}
@@ -30,11 +29,11 @@ returns-3 c =
 
 returns-4 : tie.Need-returns-4
 returns-4 c =
-    let f = c .before .before in
+    let f = c .before in
     let o = f .before .before in
     let a = o .before .before .before .before .args in
     at-other (a .ops .now) (a .i) (a .to) (a .in-loop) (omega arith) (o .before .if1 .left) (o .if2 .left) (f .before .if3 .left) (f .if4 .left) true
-    (simp (le-leb 26 _ (c .before .if5 .taken), c .if6 .taken))
+    (c .if5 .taken)
 
 returns-5 : tie.Need-returns-5
 returns-5 c =
@@ -42,7 +41,7 @@ returns-5 c =
     let o = f .before .before in
     let a = o .before .before .before .before .args in
     at-other (a .ops .now) (a .i) (a .to) (a .in-loop) (omega arith) (o .before .if1 .left) (o .if2 .left) (f .before .if3 .left) (f .if4 .left) false
-    (⊎-elim (λ w. simp (w .1 .left, and-false)) (λ w. simp (lt-leb 26 _ (w .left))) (c .if5 .came))
+    (c .if5 .left)
 
 pub opens-at-spec : {M : Type 1} → statement M
 opens-at-spec =

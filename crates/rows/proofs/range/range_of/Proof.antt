@@ -5,6 +5,7 @@ use native.Mathlib.Omega.{arith}
 use borrow.Author.Tests.{ne-eqb}
 use borrow.Author.Needs.{needs}
 use lib.ListN.{length}
+use Rattle.rules.specs.Kinds as K
 use Rattle.rules.specs.Outcome.{found}
 use Rattle.rules.specs.Rows.{firstOf}
 use Rattle.rows.proofs.SearchLaws.{first-within}
@@ -13,7 +14,7 @@ use Rattle.rows.proofs.range.range_of.Statement.{statement}
 use Rattle.rows.proofs.range.range_of.Tie as tie
 
 returns : tie.Need-returns
-returns c = simp (ne-eqb _ 2 (c .if1 .taken))
+returns c = simp (ne-eqb _ K.StreamType (c .if1 .taken))
 
 enum-told : tie.Need-enum-told
 enum-told c = search needs
@@ -25,7 +26,7 @@ returns-2 c =
 
 -- the first Stream
 stream : (c : tie.After-first-of2) → let s = c .before .before in
-    found (s .stream .given .0 .0) ≡ firstOf 28 (s .before .before .before .before .before .args .ops .now) 0
+    found (s .stream .given .0 .0) ≡ firstOf K.Stream (s .before .before .before .before .before .args .ops .now) 0
 stream c = rw (c .before .before .stream .given .1) at (c .before .before .before .before .first-of .ensures)
 
 returns-3 : tie.Need-returns-3
@@ -34,18 +35,15 @@ returns-3 c =
     no-reset _ _ (f .before .before .before .before .before .if1 .left) _ (stream f) (rw (c .enum-told2 .given .1) at (f .first-of2 .ensures))
 
 -- it lies in the list
-stream-within : (c : tie.Then2) → let s = c .before .before .before .before .before .before in
+stream-within : (c : tie.After-known-told2) → let s = c .before .before .before .before .before in
     s .stream .given .0 .0 < length (s .before .before .before .before .before .args .ops .now)
 stream-within c =
-    let f = c .before .before .before .before in
+    let f = c .before .before .before in
     let s = f .before .before in
-    omega (arith, first-within 28 (s .before .before .before .before .before .args .ops .now) 0 (s .stream .given .0 .0) (sym (stream f)))
+    omega (arith, first-within K.Stream (s .before .before .before .before .before .args .ops .now) 0 (s .stream .given .0 .0) (sym (stream f)))
 
-add-t10 : tie.Need-add-t10
-add-t10 c = omega (arith, stream-within c)
-
-add-t11 : tie.Need-add-t11
-add-t11 c = omega (arith, stream-within c)
+add-from : tie.Need-add-from
+add-from c = omega (arith, stream-within c)
 
 returns-4 : tie.Need-returns-4
 returns-4 c =
@@ -63,4 +61,4 @@ pub range-of-spec : {M : Type 1} → statement M
 range-of-spec =
     tie.close
     (tie.spec returns (λ c κs. search needs) (λ c. search needs) enum-told returns-2 (λ c κs. search needs) (λ c. search needs) (λ c. search needs)
-    returns-3 add-t10 add-t11 returns-4 (λ c. search needs) returns-5)
+    returns-3 add-from returns-4 returns-5)

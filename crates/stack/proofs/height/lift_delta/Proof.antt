@@ -7,8 +7,8 @@ use borrow.Author.Needs.{needs}
 use Rattle.stack.proofs.height.lift_delta.Statement.{statement}
 use Rattle.stack.proofs.height.lift_delta.Tie as tie
 
-add-t5 : tie.Need-add-t5
-add-t5 c =
+add-offset : tie.Need-add-offset
+add-offset c =
     let d = c .before .before .before in
     let s = d .before .before in
     delta-fits (s .args .l) (deltaOf (s .args .d)) _ (s .pre .0) (s .pre .1) (ap deltaOf (d .d .given .1))
@@ -22,4 +22,4 @@ returns c =
 pub lift-delta-spec : {M : Type 1} → statement M
 lift-delta-spec =
     tie.close
-    (tie.spec (λ c. search needs) add-t5 (λ c. search needs) returns (λ c. search needs))
+    (tie.spec (λ c. search needs) add-offset (λ c. search needs) returns (λ c. search needs))

@@ -7,14 +7,14 @@ use Rattle.stack.proofs.height.lift_peak.Tie as tie
 returns : tie.Need-returns
 returns c = let s = c .before .before .before in peak-kept (s .args .l) _ (s .pre .0) (s .pre .1) (c .if1 .taken)
 
-cast-t4 : tie.Need-cast-t4
-cast-t4 c =
+cast-offset : tie.Need-cast-offset
+cast-offset c =
     let e = c .before .before in
     let s = e .before .before .before in
     offset-cast (s .args .l) _ (s .pre .0) (s .pre .1) (e .if1 .left)
 
-add-t5 : tie.Need-add-t5
-add-t5 c =
+add-lifted : tie.Need-add-lifted
+add-lifted c =
     let e = c .before .before .before in
     let s = e .before .before .before in
     peak-fits (s .args .l) _ (s .pre .0) (s .pre .1) (e .if1 .left)
@@ -28,4 +28,4 @@ returns-2 c =
 pub lift-peak-spec : {M : Type 1} → statement M
 lift-peak-spec =
     tie.close
-    (tie.spec returns cast-t4 add-t5 returns-2)
+    (tie.spec returns cast-offset add-lifted returns-2)

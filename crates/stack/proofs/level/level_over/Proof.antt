@@ -15,8 +15,8 @@ add-offset c =
     let s = c .before .before .before .before .before .before .before .before in
     offset-fits (s .args .l) (s .args .e) (s .pre .0) (s .pre .1)
 
-cast-t9 : tie.Need-cast-t9
-cast-t9 c =
+cast-higher : tie.Need-cast-higher
+cast-higher c =
     let s = c .before .before .before .before .before .before .before .before .before in
     peak-fits (s .args .l) (s .args .e) (s .pre .0) (s .pre .1) (c .if1 .taken)
 
@@ -33,4 +33,4 @@ returns-2 c =
 pub level-over-spec : {M : Type 1} → statement M
 level-over-spec =
     tie.close
-    (tie.spec add-during add-offset (λ c. search needs) cast-t9 returns returns-2)
+    (tie.spec add-during add-offset (λ c. search needs) cast-higher returns returns-2)

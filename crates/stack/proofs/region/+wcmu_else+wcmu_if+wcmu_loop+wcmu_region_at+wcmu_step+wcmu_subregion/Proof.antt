@@ -279,8 +279,8 @@ wcmu-loop-returns-3 t c to h =
     loop-uncounted h (a .behind) (a .constants .now) (a .callees .now) (a .left) (w .before .marked .ensures) _ (w .wcmu-subregion .ensures)
     (f .part .given .1) (d .before .before .raised .ensures) _ (n .extract-loop-iteration-bound .ensures) (d .enum-told .given .1) (c .enum-told4 .given .1)
 
-wcmu-loop-add-t18 : wcmu-loop-need wcmu-loop-lts.Need-add-t18
-wcmu-loop-add-t18 t c =
+wcmu-loop-add-next : wcmu-loop-need wcmu-loop-lts.Need-add-next
+wcmu-loop-add-next t c =
     let w = c .before .before .before .before .before .before .before .before .before .before in
     omega (arith, loop-within (w .before .before .before .before .before .pre .1 .1 .1))
 
@@ -392,14 +392,9 @@ wcmu-step-over t c to h = let o = c .before in over h (o .op-effect .ensures .1)
 wcmu-step-block-at-requires : wcmu-step-need wcmu-step-lts.Need-block-at-requires
 wcmu-step-block-at-requires t c κs = c .before .before .before .before .before .before .pre .1 .1
 
-wcmu-step-add-plain : wcmu-step-need wcmu-step-lts.Need-add-t16
-wcmu-step-add-plain t c =
-    let p = c .before .before .before .before .before .before .before .before .before .pre .1 .1 .1 in
-    omega (arith, p .here, p .row .within, p .row .short)
-
-wcmu-step-add-break-if : wcmu-step-need wcmu-step-lts.Need-add-t17
-wcmu-step-add-break-if t c =
-    let p = c .before .before .before .before .before .before .before .before .before .pre .1 .1 .1 in
+wcmu-step-add-next : wcmu-step-need wcmu-step-lts.Need-add-next
+wcmu-step-add-next t c =
+    let p = c .before .before .before .before .before .before .before .pre .1 .1 .1 in
     omega (arith, p .here, p .row .within, p .row .short)
 
 wcmu-step-wcmu-if-requires : wcmu-step-need wcmu-step-lts.Need-wcmu-if-requires
@@ -524,14 +519,14 @@ pub +wcmu-else+wcmu-if+wcmu-loop+wcmu-region-at+wcmu-step+wcmu-subregion-spec :
     (wcmu-loop-wcmu-subregion-requires t) (λ c. search needs) (λ c. search needs) (wcmu-loop-returns t)
     (λ c κs. tt) (λ c. search needs) (λ c. search needs) (wcmu-loop-passed-once-requires t) (wcmu-loop-returns-2 t)
     (wcmu-loop-extract-loop-iteration-bound-requires t) (λ c. search needs) (λ c. search needs) (wcmu-loop-returns-3 t)
-    (wcmu-loop-add-t18 t) (wcmu-loop-returns-4 t))
+    (wcmu-loop-add-next t) (wcmu-loop-returns-4 t))
     (λ t. wcmu-region-at-lts.spec (wcmu-region-at-calls t) (wcmu-region-at-at t) wcmu-region-at.Post wcmu-region-at-Inv-loop wcmu-region-at-μ-loop
     (wcmu-region-at-loop-holds t) (wcmu-region-at-wcmu-step-requires t) (λ c. search needs) (wcmu-region-at-loop-less t)
     (wcmu-region-at-loop-again t) (λ c. search needs) (wcmu-region-at-returns t) (λ c. search needs)
     (wcmu-region-at-returns-2 t) (λ c κs. tt) (wcmu-region-at-returns-3 t))
     (λ t. wcmu-step-lts.spec (wcmu-step-calls t) (wcmu-step-at t) wcmu-step.Post (wcmu-step-op-effect-requires t) (wcmu-step-level-over-requires t)
-    (wcmu-step-block-at-requires t) (λ c. search needs) (wcmu-step-add-plain t) (λ c. search needs) (λ c κs. tt) (λ c. search needs) (λ c κs. tt)
-    (λ c. search needs) (wcmu-step-add-break-if t) (λ c κs. tt) (λ c. search needs) (wcmu-step-wcmu-if-requires t) (λ c. search needs)
+    (wcmu-step-block-at-requires t) (wcmu-step-add-next t) (λ c. search needs) (λ c. search needs) (λ c κs. tt) (λ c. search needs) (λ c κs. tt)
+    (λ c. search needs) (λ c κs. tt) (λ c. search needs) (wcmu-step-wcmu-if-requires t) (λ c. search needs)
     (wcmu-step-wcmu-else-requires t) (λ c. search needs) (wcmu-step-wcmu-loop-requires t) (wcmu-step-returns t) (wcmu-step-returns-2 t)
     (wcmu-step-returns-3 t) (wcmu-step-returns-4 t) (wcmu-step-returns-5 t) (wcmu-step-returns-6 t) (wcmu-step-returns-7 t))
     λ t. wcmu-subregion-lts.spec (wcmu-subregion-calls t) (wcmu-subregion-at t) wcmu-subregion.Post (wcmu-subregion-returns t)

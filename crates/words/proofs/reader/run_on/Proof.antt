@@ -7,8 +7,8 @@ use Rattle.words.proofs.reader.run_on.Tie as tie
 enum-told : tie.Need-enum-told
 enum-told c = search needs
 
-add-t14 : tie.Need-add-t14
-add-t14 c =
+add-behind : tie.Need-add-behind
+add-behind c =
     let h = rw (c .before .before .s .given .1) at (c .before .before .before .before .before .pre .2) in
     search needs
 
@@ -33,6 +33,6 @@ returns-3 c =
 pub run-on-spec : {M : Type 1} → statement M
 run-on-spec =
     tie.close
-    (tie.spec enum-told (λ c κs. search needs) (λ c. search needs) (λ c κs. search needs) (λ c. search needs) (λ c. search needs) add-t14
+    (tie.spec enum-told (λ c κs. search needs) (λ c. search needs) (λ c κs. search needs) (λ c. search needs) (λ c. search needs) add-behind
     (λ c. search needs) (λ c κs. search needs) (λ c. search needs) (λ c. search needs) (λ c. search needs) returns returns-2 returns-3
     (λ c. search needs))
