@@ -50,6 +50,14 @@ module _ (ops : List ℕ) (v e end at : ℕ) where
       let n = end - suc at in
       rw (z, add-one at, read-op ops at (omega arith)) (regroup (isSetLocal v w) (isSetLocal e w) (neverSets ops v n (suc at)) (neverSets ops e n (suc at)))
 
+-- an op that is no SetLocal changes nothing
+pub never-other : (ops : List ℕ) (s end at : ℕ) → at < end → end ≤ length ops → (kind (getD ops at 0) ≡ K.SetLocal → ⊥)
+    → neverSets ops s (end - at) at ≡ neverSets ops s (end - (at + 1)) (at + 1)
+unfolding neverSets
+never-other ops s end at h b n =
+    let z : end - at ≡ suc (end - (at + 1)) = omega arith in
+    rw (z, add-one at, read-op ops at (omega arith), ne-eqb (kind (getD ops at 0)) K.SetLocal n)
+
 -- one op more at the end
 never-last : (ops : List ℕ) (s m i : ℕ) → neverSets ops s (suc m) i ≡ (neverSets ops s m i && not (isSetLocal s (opAt ops (i + m))))
 unfolding neverSets

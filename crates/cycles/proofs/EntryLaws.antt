@@ -8,7 +8,7 @@ use Rattle.rules.specs.Outcome.{Result, ok, no, refused, andThen, inChunk}
 use Rattle.rules.specs.Ops.{opAt}
 use Rattle.rules.specs.Form.{Chunk}
 use Rattle.rules.specs.Rows.{Row, Range, chunkRow}
-use Rattle.rules.specs.Limits.{cycleCap}
+use Rattle.rules.specs.Limits.{mostWords, cycleCap}
 use Rattle.rules.specs.Cycles as R
 use Rattle.rules.specs.Sheet.{cyclesOutcome}
 use Rattle.words.specs.declared.parts.Parts.{Parts}
@@ -17,8 +17,7 @@ use Rattle.words.specs.Lookup.{partsOutcome}
 use Rattle.words.proofs.LookupLaws.{Chunked, lookup-refused}
 use Rattle.rows.specs.Tree.{treeOf}
 use Rattle.rows.specs.Answers.{rangeRow}
-use Rattle.rows.specs.Opens.{RowFits}
-use Rattle.rows.proofs.PartRows.{ops-short, row-refused, row-there}
+use Rattle.rows.proofs.PartRows.{row-refused, row-there}
 use Rattle.cycles.specs.Answers.{chunkOf}
 use Rattle.cycles.specs.Entry.{wholeCost, chunkCost}
 
@@ -28,15 +27,8 @@ module _ {ws : List ℕ} {p : Parts} {k : Chunk} (parts : PartsOf ws p k) {const
   pub whole-cost : (g : Range) → R.cappedCost cycleCap k (treeOf (opAt ops) (g .from) (g .to)) ≡ wholeCost (chunkOf constants ops extras) (g .from) (g .to)
   whole-cost g = rw (is-constants, is-ops, is-extras, parts .constants, parts .ops, parts .extras)
 
--- the walk of a range that is a row
-pub row-fits : {ws : List ℕ} {p : Parts} {k : Chunk} → PartsOf ws p k → length ws ≤ 16384 → {ops : List ℕ} → ops ≡ partOf (p .ops) (p .extras) ws
-    → {g : Range} → ok g ≡ rangeRow (p .mode) ops → RowFits ops (g .from) (g .to)
-row-fits parts short is row =
-    let there = row-there parts short is row in
-    record { within = there .within; short = ops-short parts short is; has-row = there .has-row }
-
 -- the tests and the walk of a chunk's parts are the chunk's
-module _ {ws : List ℕ} {p : Parts} (short : length ws ≤ 16384) {ops : List ℕ} (is-ops : ops ≡ partOf (p .ops) (p .extras) ws) (k : Chunk) (parts : PartsOf ws p k) where
+module _ {ws : List ℕ} {p : Parts} (short : length ws ≤ mostWords) {ops : List ℕ} (is-ops : ops ≡ partOf (p .ops) (p .extras) ws) (k : Chunk) (parts : PartsOf ws p k) where
   pub row-told : (n q : ℕ) → no n q ≡ rangeRow (p .mode) ops → no n q ≡ chunkCost k
   row-told n q e = rw (row-refused parts short is-ops n q e)
 

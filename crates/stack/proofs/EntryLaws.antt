@@ -4,6 +4,7 @@ use mathlib.Core.Path.{_≡_, sym, _∙_}
 use mathlib.Core.List.{List}
 use Prim.Native.Nat.{ℕ, _≤_}
 use lib.ListN.{length}
+use Rattle.rules.specs.Limits.{mostWords}
 use Rattle.rules.specs.Outcome.{Result, ok, no, refused, inChunk}
 use Rattle.rules.specs.Ops.{opAt}
 use Rattle.rules.specs.Form.{Chunk, ChunkFits}
@@ -16,7 +17,7 @@ use Rattle.words.specs.Lookup.{partsOutcome}
 use Rattle.words.proofs.LookupLaws.{Chunked, lookup-refused}
 use Rattle.rows.specs.Tree.{treeOf}
 use Rattle.rows.specs.Answers.{rangeRow}
-use Rattle.rows.proofs.PartRows.{ops-short, row-refused, row-there}
+use Rattle.rows.proofs.PartRows.{row-refused, row-there}
 use Rattle.stack.specs.Answers.{partsStack, StackFits}
 
 module _ {ws : List ℕ} {p : Parts} {k : Chunk} (parts : PartsOf ws p k) {ops : List ℕ} (is-ops : ops ≡ partOf (p .ops) (p .extras) ws) where
@@ -26,16 +27,12 @@ module _ {ws : List ℕ} {p : Parts} {k : Chunk} (parts : PartsOf ws p k) {ops :
   whole-stack is-constants callees g = rw (is-constants, is-ops, parts .locals, parts .constants, parts .ops)
 
   -- the walk of a range that is a row
-  pub range-fits : ChunkFits k → length ws ≤ 16384 → {g : Range} → ok g ≡ rangeRow (p .mode) ops → StackFits ops (p .locals) (g .from) (g .to)
+  pub range-fits : ChunkFits k → length ws ≤ mostWords → {g : Range} → ok g ≡ rangeRow (p .mode) ops → StackFits ops (p .locals) (g .from) (g .to)
   range-fits fits short row =
-      let there = row-there parts short is-ops row in
-      record {
-        few = rw (parts .locals) (fits .locals);
-        row = record { within = there .within; short = ops-short parts short is-ops; has-row = there .has-row };
-      }
+      record { few = rw (parts .locals) (fits .locals); row = row-there parts short is-ops row .fits }
 
 -- the tests and the walk of a chunk's parts are the chunk's
-module _ {ws : List ℕ} {p : Parts} (short : length ws ≤ 16384) {ops : List ℕ} (is-ops : ops ≡ partOf (p .ops) (p .extras) ws) (callees : List ℕ)
+module _ {ws : List ℕ} {p : Parts} (short : length ws ≤ mostWords) {ops : List ℕ} (is-ops : ops ≡ partOf (p .ops) (p .extras) ws) (callees : List ℕ)
     (k : Chunk) (parts : PartsOf ws p k) where
   pub row-told : (n q : ℕ) → no n q ≡ rangeRow (p .mode) ops → no n q ≡ chunkStack k callees
   row-told n q e = rw (row-refused parts short is-ops n q e)

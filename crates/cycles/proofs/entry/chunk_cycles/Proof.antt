@@ -4,8 +4,8 @@ use mathlib.Core.Path.{_≡_, sym, ap, _∙_}
 use borrow.Author.Needs.{needs}
 use Rattle.rules.specs.Outcome.{ok}
 use Rattle.rows.specs.Answers.{rangeIs, rowResult, rangeRow}
-use Rattle.rows.proofs.PartRows.{ops-short}
-use Rattle.cycles.proofs.EntryLaws.{row-fits, row-told, range-told}
+use Rattle.rows.proofs.PartRows.{ops-short, row-there}
+use Rattle.cycles.proofs.EntryLaws.{row-told, range-told}
 use Rattle.cycles.proofs.entry.chunk_cycles.Statement.{statement}
 use Rattle.cycles.proofs.entry.chunk_cycles.Tie as tie
 
@@ -27,7 +27,7 @@ wcet-region-requires : tie.Need-wcet-region-requires
 wcet-region-requires c κs =
     let o = c .before .before .before .before .before .before in
     let f = o .before .before .pre in
-    row-fits (f .parts) (f .short) (o .ops-of .ensures) (row-is (c .before .before))
+    row-there (f .parts) (f .short) (o .ops-of .ensures) (row-is (c .before .before)) .fits
 
 returns-2 : tie.Need-returns-2
 returns-2 c k parts =

@@ -4,9 +4,8 @@ use mathlib.Core.Path.{_≡_, sym, ap, _∙_}
 use borrow.Author.Needs.{needs}
 use Rattle.rules.specs.Outcome.{ok}
 use Rattle.rows.specs.Answers.{rangeIs, rowResult, rangeRow}
-use Rattle.rows.proofs.PartRows.{ops-short}
+use Rattle.rows.proofs.PartRows.{ops-short, row-there}
 use Rattle.cycles.specs.Answers.{walkResult}
-use Rattle.cycles.proofs.EntryLaws.{row-fits}
 use Rattle.stack.specs.Answers.{stackResult}
 use Rattle.stack.proofs.EntryLaws.{range-fits}
 use Rattle.lines.proofs.LineLaws.{row-told, walk-told, stack-told, line-told}
@@ -31,7 +30,7 @@ wcet-region-requires : tie.Need-wcet-region-requires
 wcet-region-requires c κs =
     let o = c .before .before .before .before .before .before in
     let f = o .before .before .before .pre in
-    row-fits (f .parts) (f .short) (o .ops-of .ensures) (row-is (c .before))
+    row-there (f .parts) (f .short) (o .ops-of .ensures) (row-is (c .before)) .fits
 
 returns-2 : tie.Need-returns-2
 returns-2 c k parts =
