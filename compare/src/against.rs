@@ -10,14 +10,20 @@ mod counts;
 mod document;
 mod every;
 mod form;
+#[allow(dead_code)]
+mod kinds;
 mod limits;
 #[path = "standin/passes.rs"]
 mod passes;
 mod picks;
+mod pieces;
+#[allow(dead_code)]
+mod pinnaclemug;
 mod programs;
 mod questions;
 #[allow(dead_code)]
 mod random;
+mod refusals;
 mod store;
 mod table;
 #[allow(dead_code)]
@@ -36,17 +42,19 @@ mod verify {
 use case::Case;
 use counts::Counts;
 use form::Op;
-use picks::op;
+use kinds::*;
+use pieces::{chunk, chunk_l, chunk_l_array, op};
 use random::Random;
+use refusals::*;
 use table::{Each, Outcome};
 
 const ALL: [Each; 4] = [Each::Module, Each::Short, Each::Chunk, Each::Position];
 
 /// Every op with some fields: both readings of the table have the same figures, and what an op leaves of the depth is `op_depth_effect`'s.
 fn tables(counts: &mut Counts) {
-    let chunk = every::chunk(0, 0, &[], Vec::new());
+    let chunk = chunk(FUNC, 0, &[], Vec::new());
     let held = &Case::of(&[chunk]).module.chunks[0];
-    for kind in 0..66 {
+    for kind in 0..OPS {
         for b in 0..=form::greatest_b(kind) {
             for a in [0, 1, 2, 7, 8, 9, 10, 255, 256, 65_535] {
                 if a > 0 && !form::uses_a(kind) {
@@ -95,16 +103,16 @@ fn refusals(counts: &mut Counts, random: &mut Random) {
         let c = random.pick(&[0, 0, 1, 5, 256, 65_535, 16_777_215]);
         let expected = match form::read(&words) {
             Err(refusal) => Outcome::Refused(refusal.number, 0, refusal.place),
-            Ok(chunks) if chunks.len() <= c => Outcome::Refused(12, c, 0),
+            Ok(chunks) if chunks.len() <= c => Outcome::Refused(NO_SUCH_CHUNK, c, 0),
             Ok(_) => continue,
         };
         let p = random.pick(&[0, 3, 65_536, u32::MAX as usize]);
         let mut ours = vec![
-            table::unpack_cycles(table::cycles(&words, c)),
-            table::unpack_count(table::count(&words, c, p)),
+            table::cycles(&words, c),
+            table::count(&words, c, p),
             table::stack(&words, c, &[64, 0]),
         ];
-        if let Outcome::Refused(1 | 2, ..) = expected {
+        if let Outcome::Refused(BAD_HEAD | BAD_WORD, ..) = expected {
             let room = random.below(9) as usize;
             ours.extend([table::order(&words, room), table::sheet(&words, room)]);
         }
@@ -125,23 +133,23 @@ fn refusals(counts: &mut Counts, random: &mut Random) {
 /// Every short list of ops: up to four over fifteen ops, If, Else and Loop, up to six over fewer. From four ops on no target lies before its op.
 fn lists(counts: &mut Counts) {
     let few = [
-        op(0, 0, 0),
-        op(2, 0, 0),
-        op(50, 0, 0),
-        op(23, 0, 0),
-        op(25, 0, 0),
-        op(26, 0, 0),
-        op(27, 0, 0),
+        op(CONST, 0, 0),
+        op(SET_LOCAL, 0, 0),
+        op(TRAP, 0, 0),
+        op(END_IF, 0, 0),
+        op(END_LOOP, 0, 0),
+        op(BREAK, 0, 0),
+        op(BREAK_IF, 0, 0),
     ];
     let more = [
-        op(32, 0, 0),
-        op(2, 0, 1),
-        op(1, 0, 0),
-        op(1, 0, 1),
-        op(31, 0, 0),
-        op(30, 0, 0),
-        op(30, 3, 1),
-        op(50, 0, 8),
+        op(YIELD, 0, 0),
+        op(SET_LOCAL, 0, 1),
+        op(GET_LOCAL, 0, 0),
+        op(GET_LOCAL, 0, 1),
+        op(RETURN, 0, 0),
+        op(CALL, 0, 0),
+        op(CALL, 3, 1),
+        op(TRAP, 0, 8),
     ];
     let all: Vec<Op> = few.iter().chain(&more).map(|held| Op { ..*held }).collect();
     for length in 0..=3 {
@@ -158,28 +166,28 @@ fn lists(counts: &mut Counts) {
 /// Every small change of a chunk with a counted loop: one op by every kind, or two by those that its header and tail are made of; and every stretch of its
 /// ops.
 fn changes(counts: &mut Counts) {
-    let mut one: Vec<Op> = (0..66).map(|kind| op(kind, 0, 0)).collect();
-    one.extend((0..3).flat_map(|kind| (1..4).map(move |a| op(kind, 0, a))));
-    one.extend([1, 2, 3].map(|b| op(58, b, 0)));
-    one.extend([1, 2].map(|b| op(34, b, 3)));
-    one.extend([4, 5, 14, 15, 16, 17].map(|t| op(24, 0, t)));
+    let mut one: Vec<Op> = (0..OPS).map(|kind| op(kind, 0, 0)).collect();
+    one.extend((CONST..=SET_LOCAL).flat_map(|kind| (1..4).map(move |a| op(kind, 0, a))));
+    one.extend([1, 2, 3].map(|b| op(POP_N, b, 0)));
+    one.extend([ARRAY, STRUCT].map(|b| op(NEW_COMPOSITE, b, 3)));
+    one.extend([4, 5, 14, 15, 16, 17].map(|t| op(LOOP, 0, t)));
     let two = [
-        op(0, 0, 0),
-        op(0, 0, 2),
-        op(1, 0, 0),
-        op(1, 0, 1),
-        op(2, 0, 0),
-        op(2, 0, 1),
-        op(25, 0, 0),
-        op(27, 0, 0),
-        op(32, 0, 0),
+        op(CONST, 0, 0),
+        op(CONST, 0, 2),
+        op(GET_LOCAL, 0, 0),
+        op(GET_LOCAL, 0, 1),
+        op(SET_LOCAL, 0, 0),
+        op(SET_LOCAL, 0, 1),
+        op(END_LOOP, 0, 0),
+        op(BREAK_IF, 0, 0),
+        op(YIELD, 0, 0),
     ];
     let mut see = |case: Case| counts.compare(&case, &[Each::Chunk, Each::Position]);
     for held in [
-        every::worked(&[0, 3, 1]),
-        every::worked(&[-2, 1, 5]),
-        every::worked(&[1, 0, 1]),
-        every::worked_array(3),
+        chunk_l(&[0, 3, 1]),
+        chunk_l(&[-2, 1, 5]),
+        chunk_l(&[1, 0, 1]),
+        chunk_l_array(3),
     ] {
         every::stretches(&held, &mut see);
         every::changes(&held, &one, false, &mut see);

@@ -1,9 +1,10 @@
 //! The smallest inputs of docs/DIFFERENCES.md, on which document 01 and the original part: what each of the two says.
 use crate::case::Case;
 use crate::counts::Counts;
-use crate::every::{chunk, worked};
 use crate::form::{Chunk, Op};
-use crate::picks::op;
+use crate::kinds::*;
+use crate::pieces::{chunk, chunk_l, op};
+use crate::refusals::*;
 use crate::table::{COMPARISONS, Outcome, refused};
 use crate::verify::oracle;
 use Outcome::{Answer, Refused};
@@ -50,9 +51,9 @@ fn crossed(name: &'static str, ops: Vec<Op>, original: Outcome) -> Part {
     Part {
         name,
         of: Cycles,
-        chunk: chunk(0, 0, &[], ops),
+        chunk: chunk(FUNC, 0, &[], ops),
         callee: 0,
-        ours: Refused(6, 0, 0),
+        ours: Refused(CROSSED, 0, 0),
         original,
     }
 }
@@ -70,36 +71,54 @@ fn public(name: &'static str, chunk: Chunk, ours: Outcome, original: Outcome) ->
 
 fn parts() -> Vec<Part> {
     let answer = |cycles, ends: bool| Answer(vec![cycles, i64::from(ends)]);
-    let stream = |ops| chunk(2, 0, &[], ops);
-    let reentrant = |ops| chunk(1, 0, &[], ops);
-    let mut yielding = worked(&[0, 3, 1]);
-    yielding.mode = 1;
-    yielding.ops.insert(9, op(32, 0, 0));
+    let stream = |ops| chunk(STREAMING, 0, &[], ops);
+    let reentrant = |ops| chunk(REENTRANT, 0, &[], ops);
+    let mut yielding = chunk_l(&[0, 3, 1]);
+    yielding.mode = REENTRANT;
+    yielding.ops.insert(9, op(YIELD, 0, 0));
     yielding.ops[4].a = 16;
     // If 2, If 40, If 4, If 40, ..: each If to the end is walked twice over, inside the If before it and behind that.
-    let twice = |i: usize| op(21, 0, if i % 2 == 0 { i + 2 } else { 40 });
+    let twice = |i: usize| op(IF, 0, if i % 2 == 0 { i + 2 } else { 40 });
     let mut outside = crossed(
         "If past the range",
-        vec![op(28, 0, 0), op(21, 0, 3), op(29, 0, 0), op(23, 0, 0)],
+        vec![
+            op(STREAM, 0, 0),
+            op(IF, 0, 3),
+            op(RESET, 0, 0),
+            op(END_IF, 0, 0),
+        ],
         answer(3, false),
     );
-    outside.chunk.mode = 2;
+    outside.chunk.mode = STREAMING;
     vec![
-        crossed("If to the length", vec![op(21, 0, 1)], answer(1, false)),
-        crossed("EndIf alone", vec![op(23, 0, 0)], answer(1, false)),
-        crossed("EndLoop alone", vec![op(25, 0, 0)], answer(1, false)),
-        crossed("Else alone", vec![op(22, 0, 1)], answer(1, false)),
-        crossed("Break in no loop", vec![op(26, 0, 0)], answer(1, true)),
-        crossed("BreakIf in no loop", vec![op(27, 0, 0)], answer(1, false)),
-        crossed("Loop with no body", vec![op(24, 0, 1)], Refused(9, 0, 0)),
+        crossed("If to the length", vec![op(IF, 0, 1)], answer(1, false)),
+        crossed("EndIf alone", vec![op(END_IF, 0, 0)], answer(1, false)),
+        crossed("EndLoop alone", vec![op(END_LOOP, 0, 0)], answer(1, false)),
+        crossed("Else alone", vec![op(ELSE, 0, 1)], answer(1, false)),
+        crossed("Break in no loop", vec![op(BREAK, 0, 0)], answer(1, true)),
+        crossed(
+            "BreakIf in no loop",
+            vec![op(BREAK_IF, 0, 0)],
+            answer(1, false),
+        ),
+        crossed(
+            "Loop with no body",
+            vec![op(LOOP, 0, 1)],
+            Refused(NO_COUNT, 0, 0),
+        ),
         crossed(
             "Loop with no EndLoop",
-            vec![op(24, 0, 3), op(26, 0, 0), op(32, 0, 0)],
+            vec![op(LOOP, 0, 3), op(BREAK, 0, 0), op(YIELD, 0, 0)],
             answer(2, false),
         ),
         crossed(
             "Ifs that cross",
-            vec![op(21, 0, 2), op(21, 0, 3), op(23, 0, 0), op(23, 0, 0)],
+            vec![
+                op(IF, 0, 2),
+                op(IF, 0, 3),
+                op(END_IF, 0, 0),
+                op(END_IF, 0, 0),
+            ],
             answer(6, false),
         ),
         crossed(
@@ -111,26 +130,26 @@ fn parts() -> Vec<Part> {
         Part {
             name: "too tall",
             of: Stack,
-            chunk: chunk(0, 1, &[], vec![op(30, 0, 0)]),
+            chunk: chunk(FUNC, 1, &[], vec![op(CALL, 0, 0)]),
             callee: u32::MAX,
-            ours: Refused(11, 0, 0),
+            ours: Refused(TOO_TALL, 0, 0),
             original: Answer(vec![134_217_727, 1, 0]),
         },
         public(
             "Stream and Reset charged",
-            stream(vec![op(28, 0, 0), op(29, 0, 0)]),
+            stream(vec![op(STREAM, 0, 0), op(RESET, 0, 0)]),
             answer(0, false),
             Answer(vec![2]),
         ),
         public(
             "targets tested before Stream is looked for",
-            stream(vec![op(21, 0, 0)]),
-            Refused(3, 0, 0),
-            Refused(5, 0, 0),
+            stream(vec![op(IF, 0, 0)]),
+            Refused(NO_STREAM, 0, 0),
+            Refused(BACKWARD, 0, 0),
         ),
         public(
             "a Reentrant chunk cut at its yields",
-            reentrant(vec![op(32, 0, 0), op(32, 0, 0)]),
+            reentrant(vec![op(YIELD, 0, 0), op(YIELD, 0, 0)]),
             answer(2, false),
             Answer(vec![1]),
         ),

@@ -1,5 +1,6 @@
 //! Makes the comparisons of a module, and counts their outcomes.
 use crate::case::{self, Case};
+use crate::kinds::LOOP;
 use crate::table::{COMPARISONS, Each, Expected, Outcome};
 use std::collections::BTreeMap;
 
@@ -16,7 +17,7 @@ fn positions(case: &Case, c: usize, mut see: impl FnMut(usize)) {
     let ops = &case.chunks[c].ops;
     let short = case.words.len() < 120;
     (0..ops.len() + 2)
-        .filter(|&p| short || ops.get(p).is_some_and(|op| op.kind == 24))
+        .filter(|&p| short || ops.get(p).is_some_and(|op| op.kind == LOOP))
         .for_each(&mut see);
     see(u32::MAX as usize);
 }

@@ -1,6 +1,8 @@
 //! What sets an input apart by document 01, as plain Rust reads it: the range, forward targets and rows, and the tallest stack. And its op table. Nothing here
 //! is taken from the original.
 use crate::form::{Chunk, Op};
+use crate::kinds::*;
+use crate::refusals::*;
 
 /// A refusal inside a chunk: its number and place.
 #[derive(Clone, Copy, Debug, PartialEq)]
@@ -10,28 +12,28 @@ pub struct Refusal(pub u32, pub usize);
 pub fn figures(op: &Op) -> (i64, i64, i64) {
     let (a, b) = (i64::from(op.a), i64::from(op.b));
     match op.kind {
-        0 | 1 | 3 | 33 | 57 => (1, 1, 0),
-        2 | 4 | 21 | 27 => (1, 0, 1),
-        5 => (8, 5, 0),
-        6 => (8, 4, 0),
-        7 => (7, 5, 0),
-        8..=10 | 14..=19 | 48 | 59..=63 => (2, 0, 1),
-        11 | 12 => (5, 1, 0),
-        13 | 31 | 37..=39 | 42..=47 => (2, 0, 0),
-        20 | 22..=26 | 28 | 29 | 32 => (1, 0, 0),
-        30 => (10, 1, b),
-        34 => (5, 1, a),
-        35 => (3, 0, 0),
-        36 if b == 1 => (8, 5, 0),
-        36 => (2, 0, 1),
-        40 | 41 => (3, 1, 0),
-        49 | 51..=53 | 55 | 56 => (2, 1, 0),
-        54 => (2, 2, 0),
-        50 if a == 8 => (6, 0, 5),
-        50 if a == 9 => (1, 0, 1),
-        50 => (1, 0, 0),
-        58 => (1, 0, b),
-        64 | 65 => (10, if b >= 128 { 2 } else { 1 }, b % 128),
+        CONST | GET_LOCAL | GET_DATA | DUP | PUSH_IMMEDIATE => (1, 1, 0),
+        SET_LOCAL | SET_DATA | IF | BREAK_IF => (1, 0, 1),
+        GET_DATA_INDEXED => (8, 5, 0),
+        SET_DATA_INDEXED => (8, 4, 0),
+        BOUNDS_CHECK => (7, 5, 0),
+        ADD..=MUL | CMP_EQ..=CMP_GE | FIXED_MUL | BIT_AND..=SHR => (2, 0, 1),
+        DIV | MOD => (5, 1, 0),
+        NEG | RETURN | GET_TUPLE_FIELD..=LEN | INT_TO_FLOAT..=FIXED_TO_WORD => (2, 0, 0),
+        NOT | ELSE..=BREAK | STREAM | RESET | YIELD => (1, 0, 0),
+        CALL => (10, 1, b),
+        NEW_COMPOSITE => (5, 1, a),
+        GET_FIELD => (3, 0, 0),
+        GET_INDEX if b == i64::from(BOUNDED) => (8, 5, 0),
+        GET_INDEX => (2, 0, 1),
+        IS_ENUM | IS_STRUCT => (3, 1, 0),
+        FIXED_DIV | CHECKED_ADD..=CHECKED_MUL | CHECKED_DIV | CHECKED_MOD => (2, 1, 0),
+        CHECKED_NEG => (2, 2, 0),
+        TRAP if a == 8 => (6, 0, 5),
+        TRAP if a == 9 => (1, 0, 1),
+        TRAP => (1, 0, 0),
+        POP_N => (1, 0, b),
+        CALL_VERIFIED_NATIVE | CALL_EXTERNAL_NATIVE => (10, if b >= 128 { 2 } else { 1 }, b % 128),
         kind => panic!("{kind} is the kind of no op"),
     }
 }
@@ -39,11 +41,11 @@ pub fn figures(op: &Op) -> (i64, i64, i64) {
 /// "The range is all ops, or in a Stream chunk those after the first Stream and before the first Reset."
 fn range(chunk: &Chunk) -> Result<(usize, usize), Refusal> {
     let first = |kind| chunk.ops.iter().position(|op| op.kind == kind);
-    if chunk.mode != 2 {
+    if chunk.mode != STREAMING {
         return Ok((0, chunk.ops.len()));
     }
-    let stream = first(28).ok_or(Refusal(3, 0))?;
-    let reset = first(29).ok_or(Refusal(4, 0))?;
+    let stream = first(STREAM).ok_or(Refusal(NO_STREAM, 0))?;
+    let reset = first(RESET).ok_or(Refusal(NO_RESET, 0))?;
     Ok((stream + 1, reset.max(stream + 1)))
 }
 
@@ -51,10 +53,10 @@ fn range(chunk: &Chunk) -> Result<(usize, usize), Refusal> {
 fn forward(ops: &[Op]) -> Result<(), Refusal> {
     let backward = |i: usize, op: &Op| {
         let target = usize::from(op.a);
-        matches!(op.kind, 21 | 22 | 24) && !(i < target && target <= ops.len())
+        matches!(op.kind, IF | ELSE | LOOP) && !(i < target && target <= ops.len())
     };
     match ops.iter().enumerate().find(|(i, op)| backward(*i, op)) {
-        Some((i, _)) => Err(Refusal(5, i)),
+        Some((i, _)) => Err(Refusal(BACKWARD, i)),
         None => Ok(()),
     }
 }
@@ -66,16 +68,16 @@ fn row(ops: &[Op], mut i: usize, to: usize, in_loop: bool) -> bool {
     while i < to {
         let t = usize::from(ops[i].a);
         let (inside, next) = match ops[i].kind {
-            21 if t > i + 1 && is(t - 1, 22) => {
+            IF if t > i + 1 && is(t - 1, ELSE) => {
                 let e = usize::from(ops[t - 1].a);
-                let ends = e >= t && is(e, 23);
+                let ends = e >= t && is(e, END_IF);
                 let arms = || row(ops, i + 1, t - 1, in_loop) && row(ops, t, e, in_loop);
                 (ends && arms(), e + 1)
             }
-            21 if t > i && is(t, 23) => (row(ops, i + 1, t, in_loop), t + 1),
-            24 if t > i + 1 && is(t - 1, 25) => (row(ops, i + 1, t - 1, true), t),
-            21..=25 => return false,
-            26 | 27 => (in_loop, i + 1),
+            IF if t > i && is(t, END_IF) => (row(ops, i + 1, t, in_loop), t + 1),
+            LOOP if t > i + 1 && is(t - 1, END_LOOP) => (row(ops, i + 1, t - 1, true), t),
+            IF..=END_LOOP => return false,
+            BREAK | BREAK_IF => (in_loop, i + 1),
             _ => (true, i + 1),
         };
         if !inside {
@@ -93,7 +95,7 @@ pub fn chunk_row(chunk: &Chunk) -> Result<(), Refusal> {
     if row(&chunk.ops, from, to, false) {
         Ok(())
     } else {
-        Err(Refusal(6, 0))
+        Err(Refusal(CROSSED, 0))
     }
 }
 

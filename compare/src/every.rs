@@ -1,7 +1,8 @@
 //! Every small input of a kind: flat op lists, rows by their grammar, and every change of one or two ops in chunks with counted loops.
 use crate::case::Case;
 use crate::form::{Chunk, Constant, Op};
-use crate::picks::{header, op, tail};
+use crate::kinds::*;
+use crate::pieces::{chunk, header, op, tail};
 
 /// Choices one after the other. Each run takes the same choices as the one before, but for the last that could be counted up.
 #[derive(Default)]
@@ -46,19 +47,6 @@ fn copied(held: &Op) -> Op {
     Op { ..*held }
 }
 
-pub fn chunk(mode: u8, locals: u16, constants: &[i64], ops: Vec<Op>) -> Chunk {
-    Chunk {
-        locals,
-        mode,
-        constants: constants
-            .iter()
-            .map(|&value| Constant::Int(value))
-            .collect(),
-        ops,
-        extras: Vec::new(),
-    }
-}
-
 /// Every list of `length` ops over these, and over If, Else and Loop with each target from `least(position)` to `most`.
 pub fn flat(
     length: usize,
@@ -75,12 +63,12 @@ pub fn flat(
                 Some(held) => copied(held),
                 None => {
                     let k = k - others.len();
-                    op([21, 22, 24][k / targets], 0, least(i) + k % targets)
+                    op([IF, ELSE, LOOP][k / targets], 0, least(i) + k % targets)
                 }
             }
         });
         let ops = ops.collect();
-        chunk(0, 1, &[], ops)
+        chunk(FUNC, 1, &[], ops)
     };
     each(make, |chunk| see(Case::of(&[chunk])));
 }
@@ -93,41 +81,41 @@ fn row(choices: &mut Choices, ops: &mut Vec<Op>, room: &mut u64, loops: usize) {
         *room -= 1;
         match k {
             0 => return,
-            1 => ops.push(op(0, 0, 0)),
-            2 => ops.push(op(58, 2, 0)),
-            3 => ops.push(op(50, 0, 0)),
+            1 => ops.push(op(CONST, 0, 0)),
+            2 => ops.push(op(POP_N, 2, 0)),
+            3 => ops.push(op(TRAP, 0, 0)),
             4 => {
-                ops.push(op(21, 0, 0));
+                ops.push(op(IF, 0, 0));
                 row(choices, ops, room, loops);
                 if *room > 0 && choices.below(2) == 1 {
                     *room -= 1;
                     let other = ops.len();
-                    ops.push(op(22, 0, 0));
+                    ops.push(op(ELSE, 0, 0));
                     ops[i].a = other as u16 + 1;
                     row(choices, ops, room, loops);
                     ops[other].a = ops.len() as u16;
                 } else {
                     ops[i].a = ops.len() as u16;
                 }
-                ops.push(op(23, 0, 0));
+                ops.push(op(END_IF, 0, 0));
             }
             5 => {
-                ops.push(op(24, 0, 0));
+                ops.push(op(LOOP, 0, 0));
                 row(choices, ops, room, loops + 1);
-                ops.push(op(25, 0, 0));
+                ops.push(op(END_LOOP, 0, 0));
                 ops[i].a = ops.len() as u16;
             }
             6 => {
                 let v = 2 * (loops % 2);
-                ops.push(op(24, 0, 0));
-                ops.extend(header(v));
+                ops.push(op(LOOP, 0, 0));
+                ops.extend(header(v, v + 1));
                 row(choices, ops, room, loops + 1);
-                ops.extend(tail(v));
-                ops.push(op(25, 0, 0));
+                ops.extend(tail(v, 2));
+                ops.push(op(END_LOOP, 0, 0));
                 ops[i].a = ops.len() as u16;
             }
-            7 => ops.push(op(26, 0, 0)),
-            _ => ops.push(op(27, 0, 0)),
+            7 => ops.push(op(BREAK, 0, 0)),
+            _ => ops.push(op(BREAK_IF, 0, 0)),
         }
     }
 }
@@ -137,51 +125,12 @@ pub fn rows(items: u64, mut see: impl FnMut(Case)) {
     let make = |choices: &mut Choices| {
         let mut ops = Vec::new();
         for (slot, index) in [(0, 0), (1, 1), (2, 0), (3, 3)] {
-            ops.extend([op(0, 0, index), op(2, 0, slot)]);
+            ops.extend([op(CONST, 0, index), op(SET_LOCAL, 0, slot)]);
         }
         row(choices, &mut ops, &mut { items }, 0);
-        chunk(0, 4, &[0, 3, 1, 4], ops)
+        chunk(FUNC, 4, &[0, 3, 1, 4], ops)
     };
     each(make, |chunk| see(Case::of(&[chunk])));
-}
-
-/// Chunk L of document 01 with other constants: its ops are `Const 0, SetLocal 0, Const 1, SetLocal 1, Loop 15, GetLocal 0, GetLocal 1, CmpGe, BreakIf 15,
-/// GetLocal 0, Const 2, CheckedAdd, PopN 2, SetLocal 0, EndLoop 5, Return`.
-pub fn worked(constants: &[i64]) -> Chunk {
-    let set = [op(0, 0, 0), op(2, 0, 0), op(0, 0, 1), op(2, 0, 1)];
-    let header = [
-        op(24, 0, 15),
-        op(1, 0, 0),
-        op(1, 0, 1),
-        op(19, 0, 0),
-        op(27, 0, 15),
-    ];
-    let tail = [
-        op(1, 0, 0),
-        op(0, 0, 2),
-        op(51, 0, 0),
-        op(58, 2, 0),
-        op(2, 0, 0),
-        op(25, 0, 5),
-    ];
-    let ops = set.into_iter().chain(header).chain(tail);
-    chunk(0, 2, constants, ops.chain([op(31, 0, 0)]).collect())
-}
-
-/// The same with the end from an array: its literal, a copy of it, and its length.
-pub fn worked_array(length: usize) -> Chunk {
-    let mut held = worked(&[0, 3, 1]);
-    let array = [
-        op(34, 1, length),
-        op(2, 0, 2),
-        op(1, 0, 2),
-        op(2, 0, 3),
-        op(1, 0, 3),
-        op(39, 0, 0),
-    ];
-    held.ops.splice(2..3, array);
-    held.ops[9].a = 20;
-    held
 }
 
 /// A chunk with other ops.

@@ -1,4 +1,6 @@
 //! The filed words of document 01 as plain Rust reads them: a `Vec` of chunks, or a refusal with its place. And back to words.
+use crate::kinds::*;
+use crate::refusals::{BAD_HEAD, BAD_WORD};
 
 /// A constant: an integer, or any other.
 pub enum Constant {
@@ -31,6 +33,9 @@ pub struct Refusal {
 /// "At most 16,384 words."
 pub const MOST_WORDS: usize = 16_384;
 
+/// "chunk count 1..256"
+pub const MOST_CHUNKS: u16 = 256;
+
 /// The word of a kind with its fields b and a.
 pub fn word(kind: u8, b: u8, a: u16) -> u32 {
     u32::from(kind) << 24 | u32::from(b) << 16 | u32::from(a)
@@ -50,15 +55,26 @@ fn field_a(word: u32) -> u16 {
 
 /// "Field a: index, slot or target of 0, 1, 2, 21, 22, 24..27, 30, 64, 65; count of 34; code of 50."
 pub fn uses_a(kind: u8) -> bool {
-    matches!(kind, 0..=2 | 21 | 22 | 24..=27 | 30 | 34 | 50 | 64 | 65)
+    matches!(
+        kind,
+        CONST..=SET_LOCAL
+            | IF
+            | ELSE
+            | LOOP..=BREAK_IF
+            | CALL
+            | NEW_COMPOSITE
+            | TRAP
+            | CALL_VERIFIED_NATIVE
+            | CALL_EXTERNAL_NATIVE
+    )
 }
 
-/// The greatest b: arguments of 30, 64, 65 and the count of 58 are free, 34 has four kinds and 36 two; else it is not used.
+/// The greatest b: the arguments of calls and the count of PopN are free, NewComposite has four kinds and GetIndex two; else it is not used.
 pub fn greatest_b(kind: u8) -> u8 {
     match kind {
-        30 | 58 | 64 | 65 => 255,
-        34 => 3,
-        36 => 1,
+        CALL | POP_N | CALL_VERIFIED_NATIVE | CALL_EXTERNAL_NATIVE => 255,
+        NEW_COMPOSITE => ENUM,
+        GET_INDEX => BOUNDED,
         _ => 0,
     }
 }
@@ -70,7 +86,7 @@ fn op_of(word: u32) -> Option<Op> {
         b: field_b(word),
         a: field_a(word),
     };
-    let good = op.kind <= 65 && op.b <= greatest_b(op.kind) && (op.a == 0 || uses_a(op.kind));
+    let good = op.kind < OPS && op.b <= greatest_b(op.kind) && (op.a == 0 || uses_a(op.kind));
     good.then_some(op)
 }
 
@@ -83,7 +99,7 @@ struct Reader<'a> {
 impl Reader<'_> {
     fn bad<T>(&self) -> Result<T, Refusal> {
         Err(Refusal {
-            number: 2,
+            number: BAD_WORD,
             place: self.at,
         })
     }
@@ -107,11 +123,11 @@ impl Reader<'_> {
     fn constant(&mut self, of: u8) -> Result<Constant, Refusal> {
         let mut bits = 0u64;
         for b in 0..4 {
-            let word =
-                self.take(|w| kind(w) == of && field_b(w) == b && (of == 202 || field_a(w) == 0))?;
+            let word = self
+                .take(|w| kind(w) == of && field_b(w) == b && (of == INTEGER || field_a(w) == 0))?;
             bits |= u64::from(field_a(word)) << (16 * u32::from(b));
         }
-        Ok(if of == 202 {
+        Ok(if of == INTEGER {
             Constant::Int(bits as i64)
         } else {
             Constant::Other
@@ -120,7 +136,7 @@ impl Reader<'_> {
 
     fn constants(&mut self) -> Result<Vec<Constant>, Refusal> {
         let mut constants = Vec::new();
-        while let Some(of @ (202 | 203)) = self.next_kind() {
+        while let Some(of @ (INTEGER | OTHER)) = self.next_kind() {
             constants.push(self.constant(of)?);
         }
         Ok(constants)
@@ -128,7 +144,7 @@ impl Reader<'_> {
 
     fn ops(&mut self) -> Result<Vec<Op>, Refusal> {
         let mut ops = Vec::new();
-        while let Some(0..=65) = self.next_kind() {
+        while self.next_kind().is_some_and(|kind| kind < OPS) {
             let Some(op) = op_of(self.words[self.at]) else {
                 return self.bad();
             };
@@ -141,12 +157,12 @@ impl Reader<'_> {
     /// "two words of kind 204, b 0 then 1, holding the low and the high 16 bits", no more of them than ops.
     fn extras(&mut self, most: usize) -> Result<Vec<u32>, Refusal> {
         let mut extras = Vec::new();
-        while self.next_kind() == Some(204) {
+        while self.next_kind() == Some(EXTRA) {
             if extras.len() == most {
                 return self.bad();
             }
             let low = self.take(|w| field_b(w) == 0)?;
-            let high = self.take(|w| kind(w) == 204 && field_b(w) == 1)?;
+            let high = self.take(|w| kind(w) == EXTRA && field_b(w) == 1)?;
             extras.push(u32::from(field_a(low)) | u32::from(field_a(high)) << 16);
         }
         Ok(extras)
@@ -154,7 +170,7 @@ impl Reader<'_> {
 
     /// "kind 200 (a: locals; b: 0 Func, 1 Reentrant, 2 Stream), constants, ops, extras, in that order"
     fn chunk(&mut self) -> Result<Chunk, Refusal> {
-        let head = self.take(|w| kind(w) == 200 && field_b(w) <= 2)?;
+        let head = self.take(|w| kind(w) == CHUNK && field_b(w) <= STREAMING)?;
         let constants = self.constants()?;
         let ops = self.ops()?;
         let extras = self.extras(ops.len())?;
@@ -171,14 +187,14 @@ impl Reader<'_> {
 /// "one word of kind 199 (a: chunk count 1..256, b 0), then the chunks"
 pub fn read(words: &[u32]) -> Result<Vec<Chunk>, Refusal> {
     let bad_head = Err(Refusal {
-        number: 1,
+        number: BAD_HEAD,
         place: 0,
     });
     if words.is_empty() || words.len() > MOST_WORDS {
         return bad_head;
     }
     let count = field_a(words[0]);
-    if kind(words[0]) != 199 || field_b(words[0]) != 0 || count < 1 || count > 256 {
+    if kind(words[0]) != MODULE || field_b(words[0]) != 0 || count < 1 || count > MOST_CHUNKS {
         return bad_head;
     }
     let mut reader = Reader { words, at: 1 };
@@ -195,23 +211,23 @@ pub fn read(words: &[u32]) -> Result<Vec<Chunk>, Refusal> {
 /// The words of a constant.
 fn constant_words(constant: &Constant) -> [u32; 4] {
     match constant {
-        Constant::Int(value) => [0, 1, 2, 3].map(|b| word(202, b, (value >> (16 * b)) as u16)),
-        Constant::Other => [0, 1, 2, 3].map(|b| word(203, b, 0)),
+        Constant::Int(value) => [0, 1, 2, 3].map(|b| word(INTEGER, b, (value >> (16 * b)) as u16)),
+        Constant::Other => [0, 1, 2, 3].map(|b| word(OTHER, b, 0)),
     }
 }
 
 /// The words of chunks.
 pub fn write(chunks: &[Chunk]) -> Vec<u32> {
-    let mut words = vec![word(199, 0, chunks.len() as u16)];
+    let mut words = vec![word(MODULE, 0, chunks.len() as u16)];
     for chunk in chunks {
-        words.push(word(200, chunk.mode, chunk.locals));
+        words.push(word(CHUNK, chunk.mode, chunk.locals));
         words.extend(chunk.constants.iter().flat_map(constant_words));
         words.extend(chunk.ops.iter().map(|op| word(op.kind, op.b, op.a)));
         words.extend(
             chunk
                 .extras
                 .iter()
-                .flat_map(|&x| [word(204, 0, x as u16), word(204, 1, (x >> 16) as u16)]),
+                .flat_map(|&x| [word(EXTRA, 0, x as u16), word(EXTRA, 1, (x >> 16) as u16)]),
         );
     }
     words

@@ -1,76 +1,100 @@
 //! Inputs about the limits of document 01, and its worked cases with the figures that it gives.
 use crate::case::Case;
-use crate::every::{chunk, worked, worked_array};
 use crate::form::{Chunk, Op};
-use crate::picks::{header, op, tail};
+use crate::kinds::*;
+use crate::pieces::{chunk, chunk_l, chunk_l_array, header, op, tail};
+use crate::refusals::*;
 use crate::table::{self, Outcome};
 
-/// Blocks in one another, each of a kind from `kinds` in turn, with `inside` at the middle: 0 an If, 1 an If with an Else whose first arm goes on inside,
-/// 2 the same with the second arm, 3 a Loop that a Break leaves.
-pub fn nested(depth: usize, kinds: &[u8], inside: Option<Op>) -> Chunk {
+/// A block around others: an If, an If with an Else whose first or second arm goes on inside, or a Loop that a Break leaves.
+#[derive(Clone, Copy, PartialEq)]
+pub enum Around {
+    Arm,
+    FirstArm,
+    SecondArm,
+    Body,
+}
+use Around::{Arm, Body, FirstArm, SecondArm};
+
+/// Blocks in one another, each as `around` has it in turn, with `inside` at the middle.
+pub fn nested(depth: usize, around: &[Around], inside: Option<Op>) -> Chunk {
     let mut ops = Vec::new();
     let mut open = Vec::new();
     for i in 0..depth {
-        let kind = kinds[i % kinds.len()];
-        open.push((ops.len(), kind));
-        ops.push(op(if kind == 3 { 24 } else { 21 }, 0, 0));
-        if kind == 2 {
-            ops.push(op(22, 0, 0));
+        let block = around[i % around.len()];
+        open.push((ops.len(), block));
+        ops.push(op(if block == Body { LOOP } else { IF }, 0, 0));
+        if block == SecondArm {
+            ops.push(op(ELSE, 0, 0));
         }
     }
     ops.extend(inside);
-    while let Some((from, kind)) = open.pop() {
-        match kind {
-            0 => ops[from].a = ops.len() as u16,
-            1 => {
-                ops.push(op(22, 0, ops.len() + 1));
+    while let Some((from, block)) = open.pop() {
+        match block {
+            Arm => ops[from].a = ops.len() as u16,
+            FirstArm => {
+                ops.push(op(ELSE, 0, ops.len() + 1));
                 ops[from].a = ops.len() as u16;
             }
-            2 => {
+            SecondArm => {
                 ops[from].a = from as u16 + 2;
                 ops[from + 1].a = ops.len() as u16;
             }
-            _ => {
-                ops.push(op(26, 0, 0));
+            Body => {
+                ops.push(op(BREAK, 0, 0));
                 ops[from].a = ops.len() as u16 + 1;
             }
         }
-        ops.push(op(if kind == 3 { 25 } else { 23 }, 0, 0));
+        ops.push(op(if block == Body { END_LOOP } else { END_IF }, 0, 0));
     }
-    chunk(0, 0, &[], ops)
+    chunk(FUNC, 0, &[], ops)
 }
 
-/// A counted loop in a counted loop and so on, with the locals 0 and 1 in each.
-fn counted(depth: usize, passes: i64) -> Chunk {
+/// A counted loop in a counted loop and so on, each with its own two locals set before it, and `inside` at the middle.
+pub fn counted(depth: usize, passes: i64, inside: Vec<Op>) -> Chunk {
     let mut ops = Vec::new();
     let mut open = Vec::new();
     for i in 0..depth {
         let v = 2 * i;
-        ops.extend([op(0, 0, 0), op(2, 0, v), op(0, 0, 1), op(2, 0, v + 1)]);
+        ops.extend([
+            op(CONST, 0, 0),
+            op(SET_LOCAL, 0, v),
+            op(CONST, 0, 1),
+            op(SET_LOCAL, 0, v + 1),
+        ]);
         open.push((ops.len(), v));
-        ops.push(op(24, 0, 0));
-        ops.extend(header(v));
+        ops.push(op(LOOP, 0, 0));
+        ops.extend(header(v, v + 1));
     }
+    ops.extend(inside);
     while let Some((from, v)) = open.pop() {
-        ops.extend(tail(v));
-        ops.push(op(25, 0, 0));
+        ops.extend(tail(v, 2));
+        ops.push(op(END_LOOP, 0, 0));
         ops[from].a = ops.len() as u16;
     }
-    chunk(0, 2 * depth as u16, &[0, passes, 1], ops)
+    chunk(FUNC, 2 * depth as u16, &[0, passes, 1], ops)
 }
 
 /// Nesting about 256 and far beyond it, with what is charged at the edge.
 fn nesting(see: &mut impl FnMut(Case)) {
-    let shapes: [&[u8]; 7] = [&[0], &[1], &[2], &[3], &[0, 1, 2, 3], &[3, 0], &[2, 1]];
-    for kinds in shapes {
+    let shapes: [&[Around]; 7] = [
+        &[Arm],
+        &[FirstArm],
+        &[SecondArm],
+        &[Body],
+        &[Arm, FirstArm, SecondArm, Body],
+        &[Body, Arm],
+        &[SecondArm, FirstArm],
+    ];
+    for around in shapes {
         for depth in [1, 2, 254, 255, 256, 257, 258, 300, 2000] {
             for inside in [
                 None,
-                Some(op(32, 0, 0)),
-                Some(op(50, 0, 0)),
-                Some(op(0, 0, 0)),
+                Some(op(YIELD, 0, 0)),
+                Some(op(TRAP, 0, 0)),
+                Some(op(CONST, 0, 0)),
             ] {
-                let mut held = nested(depth, kinds, inside);
+                let mut held = nested(depth, around, inside);
                 see(Case::of(std::slice::from_ref(&held)));
                 if depth < 300 {
                     for greatest in [depth - 1, depth, held.ops.len() - 1] {
@@ -84,13 +108,13 @@ fn nesting(see: &mut impl FnMut(Case)) {
     }
     for depth in [1, 2, 5, 10, 100, 255, 256, 257, 258] {
         for passes in [0, 1, 2, 3, 7] {
-            see(Case::of(&[counted(depth, passes)]));
+            see(Case::of(&[counted(depth, passes, Vec::new())]));
         }
     }
-    for kinds in [&[0], &[3]] {
-        see(Case::of(&[nested(5000, kinds, None)]));
+    for around in [Arm, Body] {
+        see(Case::of(&[nested(5000, &[around], None)]));
     }
-    see(Case::of(&[nested(8190, &[0], None)]));
+    see(Case::of(&[nested(8190, &[Arm], None)]));
 }
 
 /// Counts about 2^32 and the limits of 64 bits.
@@ -126,8 +150,8 @@ fn counts(see: &mut impl FnMut(Case)) {
         for distance in distances {
             for step in [1, 2, 0, -1, i64::MAX, i64::MIN] {
                 let stop = start.wrapping_add(distance);
-                see(Case::of(&[worked(&[start, stop, step])]));
-                see(Case::of(&[worked(&[
+                see(Case::of(&[chunk_l(&[start, stop, step])]));
+                see(Case::of(&[chunk_l(&[
                     start,
                     start.saturating_add(distance),
                     step,
@@ -136,15 +160,15 @@ fn counts(see: &mut impl FnMut(Case)) {
         }
     }
     for length in [0, 1, 2, 255, 256, 257, 32_767, 32_768, 65_534, 65_535] {
-        see(Case::of(&[worked_array(length)]));
+        see(Case::of(&[chunk_l_array(length)]));
     }
 }
 
 /// Word counts about 16,384 and chunk counts about 256, with chains and rings of calls.
 fn sizes(see: &mut impl FnMut(Case)) {
     for ops in [16_381, 16_382] {
-        for kind in [32, 0, 34, 54, 5] {
-            let a = if kind == 34 { 65_535 } else { 0 };
+        for kind in [YIELD, CONST, NEW_COMPOSITE, CHECKED_NEG, GET_DATA_INDEXED] {
+            let a = if kind == NEW_COMPOSITE { 65_535 } else { 0 };
             see(Case::of(&[chunk(
                 0,
                 65_535,
@@ -154,7 +178,7 @@ fn sizes(see: &mut impl FnMut(Case)) {
         }
     }
     for ops in [5_460, 5_459] {
-        let mut held = chunk(0, 0, &[], (0..ops).map(|_| op(32, 0, 0)).collect());
+        let mut held = chunk(FUNC, 0, &[], (0..ops).map(|_| op(YIELD, 0, 0)).collect());
         held.extras = vec![u32::MAX / 5_460; ops];
         see(Case::of(std::slice::from_ref(&held)));
         held.extras[ops - 1] = u32::MAX;
@@ -167,7 +191,7 @@ fn sizes(see: &mut impl FnMut(Case)) {
                     0,
                     65_535,
                     &[],
-                    vec![op(30, (c % 3) as u8, callee(c)), op(0, 0, 0)],
+                    vec![op(CALL, (c % 3) as u8, callee(c)), op(CONST, 0, 0)],
                 )
             });
             Case::of(&held.collect::<Vec<_>>())
@@ -183,20 +207,20 @@ fn sizes(see: &mut impl FnMut(Case)) {
 /// Stream chunks of at most four ops over Stream, Reset, a plain op, Trap, If and EndIf.
 fn streams(see: &mut impl FnMut(Case)) {
     let alphabet = [
-        op(28, 0, 0),
-        op(29, 0, 0),
-        op(0, 0, 0),
-        op(50, 0, 0),
-        op(23, 0, 0),
-        op(21, 0, 2),
-        op(21, 0, 3),
+        op(STREAM, 0, 0),
+        op(RESET, 0, 0),
+        op(CONST, 0, 0),
+        op(TRAP, 0, 0),
+        op(END_IF, 0, 0),
+        op(IF, 0, 2),
+        op(IF, 0, 3),
     ];
     for length in 0..=5u32 {
         for k in 0..7usize.pow(length) {
             let ops = (0..length).map(|i| Op {
                 ..alphabet[k / 7usize.pow(i) % 7]
             });
-            see(Case::of(&[chunk(2, 1, &[], ops.collect())]));
+            see(Case::of(&[chunk(STREAMING, 1, &[], ops.collect())]));
         }
     }
 }
@@ -230,7 +254,7 @@ fn refused(number: u32, place: usize) -> Option<Outcome> {
 }
 
 fn open_text(at: usize) -> Chunk {
-    let mut held = chunk(0, 0, &[], vec![op(31, 0, 0), op(32, 0, 0)]);
+    let mut held = chunk(FUNC, 0, &[], vec![op(RETURN, 0, 0), op(YIELD, 0, 0)]);
     held.extras = vec![0, 0];
     held.extras[at] = u32::MAX;
     held
@@ -239,73 +263,79 @@ fn open_text(at: usize) -> Chunk {
 pub fn cases() -> Vec<Worked> {
     let ends = table::ENDS;
     let trapped = vec![
-        op(0, 0, 0),
-        op(21, 0, 4),
-        op(50, 0, 0),
-        op(22, 0, 5),
-        op(32, 0, 0),
-        op(23, 0, 0),
-        op(31, 0, 0),
+        op(CONST, 0, 0),
+        op(IF, 0, 4),
+        op(TRAP, 0, 0),
+        op(ELSE, 0, 5),
+        op(YIELD, 0, 0),
+        op(END_IF, 0, 0),
+        op(RETURN, 0, 0),
     ];
-    let call = |locals| chunk(0, locals, &[], vec![op(30, 0, 0)]);
+    let call = |locals| chunk(FUNC, locals, &[], vec![op(CALL, 0, 0)]);
     vec![
         (
             "chunk L",
-            worked(&[0, 3, 1]),
+            chunk_l(&[0, 3, 1]),
             vec![],
             cycles(48, true),
             stack(3, ends, 160),
         ),
         (
             "constant 1 made 0",
-            worked(&[0, 0, 1]),
+            chunk_l(&[0, 0, 1]),
             vec![],
             cycles(12, true),
             None,
         ),
         (
             "made -1",
-            worked(&[0, -1, 1]),
+            chunk_l(&[0, -1, 1]),
             vec![],
             cycles(12, true),
             None,
         ),
         (
             "made 2^32 - 1",
-            worked(&[0, (1 << 32) - 1, 1]),
+            chunk_l(&[0, (1 << 32) - 1, 1]),
             vec![],
             cycles(4_294_967_295, true),
             None,
         ),
         (
             "made 2^32",
-            worked(&[0, 1 << 32, 1]),
+            chunk_l(&[0, 1 << 32, 1]),
             vec![],
-            refused(9, 4),
-            refused(9, 4),
+            refused(NO_COUNT, 4),
+            refused(NO_COUNT, 4),
         ),
         (
             "start -1, end 2^63 - 1",
-            worked(&[-1, i64::MAX, 1]),
+            chunk_l(&[-1, i64::MAX, 1]),
             vec![],
-            refused(9, 4),
-            refused(9, 4),
+            refused(NO_COUNT, 4),
+            refused(NO_COUNT, 4),
         ),
         (
             "Else charged to an ended arm",
-            chunk(0, 0, &[], trapped),
+            chunk(FUNC, 0, &[], trapped),
             vec![],
             cycles(7, true),
             None,
         ),
         (
             "no ops, locals 3",
-            chunk(0, 3, &[], vec![]),
+            chunk(FUNC, 3, &[], vec![]),
             vec![],
             cycles(0, false),
             stack(0, 0, 96),
         ),
-        ("open text", open_text(0), vec![], refused(8, 0), None),
+        (
+            "open text",
+            open_text(0),
+            vec![],
+            refused(OPEN_TEXT, 0),
+            None,
+        ),
         (
             "open text behind a Return",
             open_text(1),
@@ -315,35 +345,40 @@ pub fn cases() -> Vec<Worked> {
         ),
         (
             "256 blocks",
-            nested(256, &[0], None),
+            nested(256, &[Arm], None),
             vec![],
             cycles(512, false),
             None,
         ),
         (
             "257 blocks",
-            nested(257, &[0], None),
+            nested(257, &[Arm], None),
             vec![],
-            refused(7, 0),
-            refused(7, 0),
+            refused(TOO_DEEP, 0),
+            refused(TOO_DEEP, 0),
         ),
         (
             "If to the length",
-            chunk(0, 0, &[], vec![op(21, 0, 1)]),
+            chunk(FUNC, 0, &[], vec![op(IF, 0, 1)]),
             vec![],
-            refused(6, 0),
-            refused(6, 0),
+            refused(CROSSED, 0),
+            refused(CROSSED, 0),
         ),
         (
             "Loop to the length",
-            chunk(0, 0, &[], vec![op(24, 0, 3), op(26, 0, 0), op(25, 0, 0)]),
+            chunk(
+                FUNC,
+                0,
+                &[],
+                vec![op(LOOP, 0, 3), op(BREAK, 0, 0), op(END_LOOP, 0, 0)],
+            ),
             vec![],
             cycles(2, false),
             None,
         ),
         (
             "Reset before Stream",
-            chunk(2, 0, &[], vec![op(29, 0, 0), op(28, 0, 0)]),
+            chunk(STREAMING, 0, &[], vec![op(RESET, 0, 0), op(STREAM, 0, 0)]),
             vec![],
             cycles(0, false),
             stack(0, 0, 0),
@@ -360,7 +395,7 @@ pub fn cases() -> Vec<Worked> {
             call(1),
             vec![u32::MAX],
             None,
-            refused(11, 0),
+            refused(TOO_TALL, 0),
         ),
     ]
 }

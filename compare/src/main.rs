@@ -1,27 +1,28 @@
 //! Compares the proved reader with a plain Rust reading of the same words: the outcomes, then the times.
 mod form;
+#[allow(dead_code)]
+mod kinds;
+#[allow(dead_code)]
+mod pinnaclemug;
 mod random;
+#[allow(dead_code)]
+mod refusals;
 
-use form::{word, Chunk, Refusal};
+use form::{Chunk, Refusal, word};
+use kinds::*;
 use random::Random;
 use std::hint::black_box;
 use std::time::Instant;
 
-extern "C" {
-    fn pm_read(words: *const u32, length: usize) -> u64;
-}
-
-/// The proved reader's outcome: the chunk count, or the refusal's number times 2^32 plus its place.
-fn ours(words: &[u32]) -> u64 {
-    // The words are lent for the call, and only read.
-    unsafe { pm_read(words.as_ptr(), words.len()) }
-}
-
-/// The Rust reading's outcome, packed in the same way.
-fn packed(reading: &Result<Vec<Chunk>, Refusal>) -> u64 {
+/// The Rust reading's outcome as the proved reader gives it: the chunk is 0 for every refusal.
+fn plain(reading: &Result<Vec<Chunk>, Refusal>) -> Result<usize, pinnaclemug::Refusal> {
     match reading {
-        Ok(chunks) => chunks.len() as u64,
-        Err(refusal) => u64::from(refusal.number) << 32 | refusal.place as u64,
+        Ok(chunks) => Ok(chunks.len()),
+        Err(refusal) => Err(pinnaclemug::Refusal {
+            number: refusal.number,
+            chunk: 0,
+            place: refusal.place as u32,
+        }),
     }
 }
 
@@ -36,15 +37,15 @@ impl Counts {
     /// Both sides on these words. What the Rust accepts also has to be the words again when it is written.
     fn compare(&mut self, words: &[u32]) {
         let reading = form::read(words);
-        let (left, right) = (ours(words), packed(&reading));
+        let (left, right) = (pinnaclemug::read(words), plain(&reading));
         if left != right || reading.is_ok_and(|chunks| form::write(&chunks) != words) {
             self.differences += 1;
             println!(
-                "difference: proved {left:#x}, Rust {right:#x}, words {:x?}",
+                "difference: proved {left:?}, Rust {right:?}, words {:x?}",
                 &words[..words.len().min(40)]
             );
         }
-        self.by_number[(right >> 32) as usize] += 1;
+        self.by_number[right.map_or_else(|refusal| refusal.number as usize, |_| 0)] += 1;
     }
 
     fn lists(&self) -> u64 {
@@ -74,19 +75,24 @@ fn every_damage(counts: &mut Counts, module: &[u32]) {
 fn every_word(counts: &mut Counts) {
     let fronts: [&[u32]; 8] = [
         &[],
-        &[word(199, 0, 1)],
-        &[word(199, 0, 2), word(200, 0, 0)],
-        &[word(199, 0, 1), word(200, 0, 0), word(202, 0, 9)],
-        &[word(199, 0, 1), word(200, 0, 0), word(203, 0, 0)],
-        &[word(199, 0, 1), word(200, 0, 0), 0],
-        &[word(199, 0, 2), word(200, 0, 0), 0, word(204, 0, 9)],
+        &[word(MODULE, 0, 1)],
+        &[word(MODULE, 0, 2), word(CHUNK, 0, 0)],
+        &[word(MODULE, 0, 1), word(CHUNK, 0, 0), word(INTEGER, 0, 9)],
+        &[word(MODULE, 0, 1), word(CHUNK, 0, 0), word(OTHER, 0, 0)],
+        &[word(MODULE, 0, 1), word(CHUNK, 0, 0), word(CONST, 0, 0)],
         &[
-            word(199, 0, 1),
-            word(200, 0, 0),
-            0,
-            0,
-            word(204, 0, 9),
-            word(204, 1, 9),
+            word(MODULE, 0, 2),
+            word(CHUNK, 0, 0),
+            word(CONST, 0, 0),
+            word(EXTRA, 0, 9),
+        ],
+        &[
+            word(MODULE, 0, 1),
+            word(CHUNK, 0, 0),
+            word(CONST, 0, 0),
+            word(CONST, 0, 0),
+            word(EXTRA, 0, 9),
+            word(EXTRA, 1, 9),
         ],
     ];
     for front in fronts {
@@ -104,15 +110,15 @@ fn every_word(counts: &mut Counts) {
 fn edges(counts: &mut Counts) {
     for announced in [0, 1, 2, 255, 256, 257] {
         for chunks in 0..259 {
-            let mut words = vec![word(199, 0, announced)];
-            words.resize(chunks + 1, word(200, 0, 0));
+            let mut words = vec![word(MODULE, 0, announced)];
+            words.resize(chunks + 1, word(CHUNK, 0, 0));
             counts.compare(&words);
         }
     }
     for announced in 0..3 {
         for length in form::MOST_WORDS - 3..form::MOST_WORDS + 3 {
-            let mut words = vec![word(199, 0, announced), word(200, 0, 0)];
-            words.resize(length, word(33, 0, 0));
+            let mut words = vec![word(MODULE, 0, announced), word(CHUNK, 0, 0)];
+            words.resize(length, word(DUP, 0, 0));
             counts.compare(&words);
         }
     }
@@ -145,7 +151,7 @@ fn round<T>(words: &[u32], read: impl Fn(&[u32]) -> T) -> f64 {
 fn times(words: &[u32]) -> (f64, f64) {
     let mut best = (f64::MAX, f64::MAX);
     for _ in 0..100 {
-        best.0 = best.0.min(round(words, ours));
+        best.0 = best.0.min(round(words, pinnaclemug::read));
         best.1 = best.1.min(round(words, form::read));
     }
     best
@@ -160,11 +166,11 @@ fn timed(
     ops: usize,
     extras: usize,
 ) {
-    let mut words = vec![word(199, 0, chunks as u16)];
+    let mut words = vec![word(MODULE, 0, chunks as u16)];
     for _ in 0..chunks {
         random.chunk(&mut words, constants, ops, extras);
     }
-    assert_eq!(ours(&words), chunks as u64, "{name} is a module");
+    assert_eq!(pinnaclemug::read(&words), Ok(chunks), "{name} is a module");
     let (left, right) = times(&words);
     println!(
         "{name:<22} {:>6} {left:>10.2} {right:>10.2} {:>10.2}",

@@ -1,30 +1,8 @@
 //! Random values and ops for programs.
 use crate::form::{Op, greatest_b, uses_a};
+use crate::kinds::*;
+use crate::pieces::op;
 use crate::random::Random;
-
-pub fn op(kind: u8, b: u8, a: usize) -> Op {
-    Op {
-        kind,
-        b,
-        a: a as u16,
-    }
-}
-
-/// The header test of a loop that counts from slot v to slot v + 1.
-pub fn header(v: usize) -> [Op; 4] {
-    [op(1, 0, v), op(1, 0, v + 1), op(19, 0, 0), op(27, 0, 0)]
-}
-
-/// The tail of such a loop, which adds constant 2 to slot v.
-pub fn tail(v: usize) -> [Op; 5] {
-    [
-        op(1, 0, v),
-        op(0, 0, 2),
-        op(51, 0, 0),
-        op(58, 2, 0),
-        op(2, 0, v),
-    ]
-}
 
 impl Random {
     /// One of some values.
@@ -54,8 +32,8 @@ impl Random {
     /// An op that opens, closes and leaves no block and ends no row.
     pub fn plain(&mut self) -> Op {
         loop {
-            let kind = self.below(66) as u8;
-            if matches!(kind, 21..=31 | 50) {
+            let kind = self.below(u64::from(OPS)) as u8;
+            if matches!(kind, IF..=RETURN | TRAP) {
                 continue;
             }
             let b = self.below(u64::from(greatest_b(kind)) + 1) as u8;
@@ -65,8 +43,8 @@ impl Random {
                 b
             };
             let a = match kind {
-                0 => self.below(6),
-                1 | 2 => 4 + self.below(4),
+                CONST => self.below(6),
+                GET_LOCAL | SET_LOCAL => 4 + self.below(4),
                 _ => self.pick(&[0, 1, 2, 3, 7, 65_535]),
             };
             return op(kind, b, if uses_a(kind) { a as usize } else { 0 });

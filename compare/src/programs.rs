@@ -1,6 +1,7 @@
 //! Random modules whose ops are mostly rows: arms, counted loops, breaks, traps and calls, with near misses of each.
 use crate::form::{Chunk, Constant, Op, uses_a};
-use crate::picks::op;
+use crate::kinds::*;
+use crate::pieces::op;
 use crate::random::Random;
 
 /// Where the Calls of a module may lead, besides out of it.
@@ -54,7 +55,7 @@ impl Maker<'_> {
             _ => self.random.pick(&[n, n + 1, 65_535]),
         };
         let arguments = self.random.pick(&[0, 0, 1, 2, 3, 255]);
-        self.push(30, arguments, callee as usize);
+        self.push(CALL, arguments, callee as usize);
     }
 
     /// Some items, and sometimes an op that ends the row or leaves the loop, with or without dead ops behind it.
@@ -64,14 +65,14 @@ impl Maker<'_> {
         }
         if self.random.one_in(5) {
             match self.random.below(if in_loop { 6 } else { 3 }) {
-                0 => self.push(31, 0, 0),
+                0 => self.push(RETURN, 0, 0),
                 1 | 2 => {
                     let code = self.random.pick(&[0, 1, 8, 9, 300]);
-                    self.push(50, 0, code)
+                    self.push(TRAP, 0, code)
                 }
                 _ => {
                     let operand = self.random.below(20) as usize;
-                    self.push(26, 0, operand)
+                    self.push(BREAK, 0, operand)
                 }
             };
             if self.random.one_in(3) {
@@ -89,21 +90,21 @@ impl Maker<'_> {
             5 => self.call(),
             6 if in_loop => {
                 let operand = self.random.below(20) as usize;
-                self.push(27, 0, operand);
+                self.push(BREAK_IF, 0, operand);
             }
             6 | 7 => {
-                let from = self.push(21, 0, 0);
+                let from = self.push(IF, 0, 0);
                 self.row(depth - 1, in_loop);
-                let end = self.push(23, 0, 0);
+                let end = self.push(END_IF, 0, 0);
                 self.ops[from].a = end as u16;
             }
             8..=10 => {
-                let from = self.push(21, 0, 0);
+                let from = self.push(IF, 0, 0);
                 self.row(depth - 1, in_loop);
-                let other = self.push(22, 0, 0);
+                let other = self.push(ELSE, 0, 0);
                 self.ops[from].a = other as u16 + 1;
                 self.row(depth - 1, in_loop);
-                let end = self.push(23, 0, 0);
+                let end = self.push(END_IF, 0, 0);
                 self.ops[other].a = end as u16;
             }
             11 => self.open_loop(depth),
@@ -113,17 +114,17 @@ impl Maker<'_> {
 
     /// A loop with no header; most of their bodies leave it.
     fn open_loop(&mut self, depth: u32) {
-        let from = self.push(24, 0, 0);
+        let from = self.push(LOOP, 0, 0);
         self.row(depth - 1, true);
         if !self.random.one_in(4) {
-            self.push(26, 0, 0);
+            self.push(BREAK, 0, 0);
         }
         self.close(from);
     }
 
     fn close(&mut self, from: usize) {
         let operand = self.random.below(20) as usize;
-        let end = self.push(25, 0, operand);
+        let end = self.push(END_LOOP, 0, operand);
         self.ops[from].a = end as u16 + 1;
     }
 
@@ -133,32 +134,32 @@ impl Maker<'_> {
             0..=6 => {
                 let value = self.random.value();
                 let index = self.constant(value);
-                self.push(0, 0, index);
+                self.push(CONST, 0, index);
             }
             7 => {
                 let index = self.random.below(8) as usize;
-                self.push(0, 0, index);
+                self.push(CONST, 0, index);
             }
             8 => self.plain(),
             _ => {
-                let kind = if self.random.one_in(8) { 2 } else { 1 };
+                let kind = if self.random.one_in(8) { STRUCT } else { ARRAY };
                 let length = self.random.pick(&[0, 1, 2, 3, 9, 65_535]);
-                self.push(34, kind, length);
+                self.push(NEW_COMPOSITE, kind, length);
                 let mut held = self.random.below(4) as usize;
-                self.push(2, 0, held);
+                self.push(SET_LOCAL, 0, held);
                 for _ in 0..self.random.below(3) {
-                    self.push(1, 0, held);
+                    self.push(GET_LOCAL, 0, held);
                     held = self.random.below(6) as usize;
-                    self.push(2, 0, held);
+                    self.push(SET_LOCAL, 0, held);
                     if self.random.one_in(4) {
                         self.plain();
                     }
                 }
-                self.push(1, 0, held);
-                self.push(39, 0, 0);
+                self.push(GET_LOCAL, 0, held);
+                self.push(LEN, 0, 0);
             }
         }
-        self.push(2, 0, slot);
+        self.push(SET_LOCAL, 0, slot);
     }
 
     /// A counted loop; one in three has some change somewhere from the values on.
@@ -181,9 +182,14 @@ impl Maker<'_> {
         if self.random.one_in(4) {
             self.plain();
         }
-        let from = self.push(24, 0, 0);
+        let from = self.push(LOOP, 0, 0);
         let operand = self.random.below(20) as usize;
-        for (kind, a) in [(1, v), (1, e), (19, 0), (27, operand)] {
+        for (kind, a) in [
+            (GET_LOCAL, v),
+            (GET_LOCAL, e),
+            (CMP_GE, 0),
+            (BREAK_IF, operand),
+        ] {
             self.push(kind, 0, a);
         }
         self.row(depth - 1, true);
@@ -193,7 +199,13 @@ impl Maker<'_> {
             _ => 1,
         };
         let step = self.constant(step);
-        for (kind, b, a) in [(1, 0, v), (0, 0, step), (51, 0, 0), (58, 2, 0), (2, 0, v)] {
+        for (kind, b, a) in [
+            (GET_LOCAL, 0, v),
+            (CONST, 0, step),
+            (CHECKED_ADD, 0, 0),
+            (POP_N, 2, 0),
+            (SET_LOCAL, 0, v),
+        ] {
             self.push(kind, b, a);
         }
         self.close(from);
@@ -207,13 +219,13 @@ impl Maker<'_> {
         let i = start + self.random.below((self.ops.len() - start) as u64) as usize;
         let held = &mut self.ops[i];
         match held.kind {
-            0..=2 => held.a = self.random.below(5) as u16,
-            58 => held.b = self.random.below(5) as u8,
-            34 => held.b = self.random.below(4) as u8,
-            19 => held.kind = 17,
-            27 => *held = op(32, 0, 0),
-            51 => held.kind = 52,
-            24 | 21 | 22 => held.a = held.a.wrapping_add(self.random.pick(&[1, 65_535, 5])),
+            CONST..=SET_LOCAL => held.a = self.random.below(5) as u16,
+            POP_N => held.b = self.random.below(5) as u8,
+            NEW_COMPOSITE => held.b = self.random.below(4) as u8,
+            CMP_GE => held.kind = CMP_GT,
+            BREAK_IF => *held = op(YIELD, 0, 0),
+            CHECKED_ADD => held.kind = CHECKED_SUB,
+            LOOP | IF | ELSE => held.a = held.a.wrapping_add(self.random.pick(&[1, 65_535, 5])),
             _ => *held = self.random.plain(),
         }
     }
@@ -221,14 +233,14 @@ impl Maker<'_> {
     /// The rows of a Stream chunk: before Stream, the range, and behind Reset; now and then a marker is missing, doubled or out of place.
     fn stream(&mut self) {
         let markers: &[u8] = match self.random.below(16) {
-            0 => &[28],
-            1 => &[29],
+            0 => &[STREAM],
+            1 => &[RESET],
             2 => &[],
-            3 => &[29, 28],
-            4 => &[28, 28, 29],
-            5 => &[28, 29, 29],
-            6 => &[29, 28, 29],
-            _ => &[28, 29],
+            3 => &[RESET, STREAM],
+            4 => &[STREAM, STREAM, RESET],
+            5 => &[STREAM, RESET, RESET],
+            6 => &[RESET, STREAM, RESET],
+            _ => &[STREAM, RESET],
         };
         for &marker in markers {
             self.row(3, false);
@@ -261,10 +273,12 @@ impl Maker<'_> {
             let value = self.random.value();
             self.constant(value);
         }
-        let mode = self.random.pick(&[0, 0, 0, 0, 1, 2, 2]);
+        let mode = self
+            .random
+            .pick(&[FUNC, FUNC, FUNC, FUNC, REENTRANT, STREAMING, STREAMING]);
         let depth = 1 + self.random.below(5) as u32;
         match mode {
-            2 => self.stream(),
+            STREAMING => self.stream(),
             _ => (0..1 + self.random.below(3)).for_each(|_| self.row(depth, false)),
         }
         if self.random.one_in(8) && !self.ops.is_empty() {
@@ -294,7 +308,9 @@ impl Maker<'_> {
             }
             2 => self.ops.swap(i, j),
             3 => {
-                let kind = self.random.pick(&[21, 22, 23, 24, 25, 26, 27, 31, 32]);
+                let kind = self.random.pick(&[
+                    IF, ELSE, END_IF, LOOP, END_LOOP, BREAK, BREAK_IF, RETURN, YIELD,
+                ]);
                 let a = if uses_a(kind) {
                     self.random.below(end + 2)
                 } else {
@@ -303,7 +319,7 @@ impl Maker<'_> {
                 self.ops.insert(i, op(kind, 0, a as usize));
             }
             _ => {
-                if matches!(self.ops[i].kind, 21 | 22 | 24) {
+                if matches!(self.ops[i].kind, IF | ELSE | LOOP) {
                     self.ops[i].a = self.random.below(end + 2) as u16;
                 }
             }

@@ -1,8 +1,9 @@
 //! The stored questions: every op kind, every refusal at different places, the limits, near misses of a count, and random modules from a fixed seed.
-use crate::every::{chunk, worked, worked_array};
 use crate::form::{self, Chunk, Op, word};
-use crate::limits;
-use crate::picks::op;
+use crate::kinds::*;
+use crate::limits::{self, Around};
+use crate::pieces::{chunk, chunk_l, chunk_l_array, op};
+use crate::pinnaclemug::ROW;
 use crate::programs;
 use crate::random::Random;
 use crate::typical;
@@ -70,12 +71,12 @@ impl List {
 
     /// The tray is two words longer than it has to be.
     fn sheet(&mut self, held: &[Chunk]) {
-        self.with_room(Asked::Sheet, held, 3 * held.len() + 2);
+        self.with_room(Asked::Sheet, held, ROW * held.len() + 2);
     }
 }
 
 fn func(ops: &[(u8, u8, usize)]) -> Chunk {
-    chunk(0, 1, &[], ops_of(ops))
+    chunk(FUNC, 1, &[], ops_of(ops))
 }
 
 fn ops_of(ops: &[(u8, u8, usize)]) -> Vec<Op> {
@@ -88,7 +89,7 @@ fn readings(list: &mut List) {
         0,
         3,
         &[0x0004_0003_0002_0001],
-        vec![op(0, 0, 0), op(31, 0, 0)],
+        vec![op(CONST, 0, 0), op(RETURN, 0, 0)],
     );
     held.extras = vec![0x0006_0005];
     let good = form::write(&[held]);
@@ -102,18 +103,18 @@ fn readings(list: &mut List) {
         list.read(&good[..n]);
     }
     for announced in [0, 1, 256, 257] {
-        let mut words = vec![word(200, 0, 0); 257];
-        words[0] = word(199, 0, announced);
+        let mut words = vec![word(CHUNK, 0, 0); 257];
+        words[0] = word(MODULE, 0, announced);
         list.read(&words);
     }
-    let head = [word(199, 0, 1), word(200, 2, 9)];
+    let head = [word(MODULE, 0, 1), word(CHUNK, 2, 9)];
     let behind: [&[u32]; 6] = [
-        &[word(3, 0, 1)],
-        &[word(66, 0, 0)],
-        &[0, word(34, 4, 0)],
-        &[0, 0, word(36, 2, 0)],
-        &[word(202, 0, 0), word(203, 1, 0)],
-        &[0, word(204, 0, 1), word(204, 1, 1), word(204, 0, 1)],
+        &[word(GET_DATA, 0, 1)],
+        &[word(OPS, 0, 0)],
+        &[0, word(NEW_COMPOSITE, 4, 0)],
+        &[0, 0, word(GET_INDEX, 2, 0)],
+        &[word(INTEGER, 0, 0), word(OTHER, 1, 0)],
+        &[0, word(EXTRA, 0, 1), word(EXTRA, 1, 1), word(EXTRA, 0, 1)],
     ];
     for words in behind {
         list.read(&[&head, words].concat());
@@ -122,37 +123,42 @@ fn readings(list: &mut List) {
 
 /// A row with one op of a kind behind six Dups, in the smallest block that allows it, and so many Dups behind it.
 fn alone(kind: u8, b: u8, a: usize, behind: usize) -> Chunk {
-    let mut ops: Vec<Op> = (0..6).map(|_| op(33, 0, 0)).collect();
+    let mut ops: Vec<Op> = (0..6).map(|_| op(DUP, 0, 0)).collect();
     let block: &[(u8, u8, usize)] = match kind {
-        21 | 23 => &[(21, 0, 7), (23, 0, 0)],
-        22 => &[(21, 0, 8), (22, 0, 8), (23, 0, 0)],
-        24..=26 => &[(24, 0, 9), (26, 0, 0), (25, 0, 0)],
-        27 => &[(24, 0, 10), (27, 0, 0), (26, 0, 0), (25, 0, 0)],
+        IF | END_IF => &[(IF, 0, 7), (END_IF, 0, 0)],
+        ELSE => &[(IF, 0, 8), (ELSE, 0, 8), (END_IF, 0, 0)],
+        LOOP..=BREAK => &[(LOOP, 0, 9), (BREAK, 0, 0), (END_LOOP, 0, 0)],
+        BREAK_IF => &[
+            (LOOP, 0, 10),
+            (BREAK_IF, 0, 0),
+            (BREAK, 0, 0),
+            (END_LOOP, 0, 0),
+        ],
         _ => &[(kind, b, a)],
     };
     ops.extend(ops_of(block));
-    ops.extend((0..behind).map(|_| op(33, 0, 0)));
-    chunk(0, u16::from(kind), &[], ops)
+    ops.extend((0..behind).map(|_| op(DUP, 0, 0)));
+    chunk(FUNC, u16::from(kind), &[], ops)
 }
 
 /// A chunk for each kind: with nothing behind the op its growth shows, with Dups behind it what it leaves. Then the kinds whose fields count.
 fn kinds(list: &mut List) {
     let fields = [
-        (30, 4, 300),
-        (34, 0, 9),
-        (34, 3, 2),
-        (36, 1, 0),
-        (50, 0, 8),
-        (50, 0, 9),
-        (58, 7, 0),
-        (64, 3, 1),
-        (64, 130, 1),
-        (65, 128, 0),
-        (65, 127, 65_535),
+        (CALL, 4, 300),
+        (NEW_COMPOSITE, TUPLE, 9),
+        (NEW_COMPOSITE, ENUM, 2),
+        (GET_INDEX, BOUNDED, 0),
+        (TRAP, 0, 8),
+        (TRAP, 0, 9),
+        (POP_N, 7, 0),
+        (CALL_VERIFIED_NATIVE, 3, 1),
+        (CALL_VERIFIED_NATIVE, 130, 1),
+        (CALL_EXTERNAL_NATIVE, 128, 0),
+        (CALL_EXTERNAL_NATIVE, 127, 65_535),
     ];
     for behind in [0, 12] {
-        let call = |kind| if kind == 30 { 300 } else { 0 };
-        let each = (0..66).map(|kind| alone(kind, 0, call(kind), behind));
+        let call = |kind| if kind == CALL { 300 } else { 0 };
+        let each = (0..OPS).map(|kind| alone(kind, 0, call(kind), behind));
         list.sheet(&each.collect::<Vec<_>>());
         let each = fields.iter().map(|&(kind, b, a)| alone(kind, b, a, behind));
         list.sheet(&each.collect::<Vec<_>>());
@@ -175,22 +181,22 @@ fn worked_cases(list: &mut List) {
 /// Counts at positions, through arrays, and near misses: each op of chunk L up to its EndLoop made a Yield, other steps, and sets inside the body.
 fn counts(list: &mut List) {
     for p in [4, 0, 5, 16, u32::MAX as usize] {
-        list.count(&[worked(&[0, 3, 1])], 0, p);
+        list.count(&[chunk_l(&[0, 3, 1])], 0, p);
     }
     for length in [0, 3, 65_535] {
-        list.count(&[worked_array(length)], 0, 9);
+        list.count(&[chunk_l_array(length)], 0, 9);
     }
     for i in 0..15 {
-        let mut held = worked(&[0, 3, 1]);
-        held.ops[i] = op(32, 0, 0);
+        let mut held = chunk_l(&[0, 3, 1]);
+        held.ops[i] = op(YIELD, 0, 0);
         list.count(&[held], 0, 4);
     }
     for constants in [[0, 3, 0], [0, 3, -1], [7, 3, 2], [-4, 1 << 31, 5]] {
-        list.count(&[worked(&constants)], 0, 4);
+        list.count(&[chunk_l(&constants)], 0, 4);
     }
     for slot in [0, 1, 2] {
-        let mut held = worked(&[0, 3, 1]);
-        held.ops.insert(9, op(2, 0, slot));
+        let mut held = chunk_l(&[0, 3, 1]);
+        held.ops.insert(9, op(SET_LOCAL, 0, slot));
         held.ops[4].a = 16;
         list.count(&[held], 0, 4);
     }
@@ -198,27 +204,32 @@ fn counts(list: &mut List) {
 
 /// Refusals 3 to 9 and 12 of one chunk, at different places and chunks.
 fn refusals(list: &mut List) {
-    let plain = func(&[(33, 0, 0)]);
-    let stream = |ops| chunk(2, 0, &[], ops_of(ops));
-    list.cycles(&[stream(&[(33, 0, 0), (29, 0, 0)])], 0);
-    list.stack(&[stream(&[(33, 0, 0), (28, 0, 0)])], 0, &[]);
-    list.cycles(&[func(&[(33, 0, 0), (21, 0, 1)])], 0);
-    list.stack(&[func(&[(21, 0, 2), (22, 0, 1), (23, 0, 0)])], 0, &[]);
-    list.cycles(&[plain, func(&[(33, 0, 0), (33, 0, 0), (24, 0, 5)])], 1);
-    list.cycles(&[func(&[(33, 0, 0), (26, 0, 0)])], 0);
+    let plain = func(&[(DUP, 0, 0)]);
+    let stream = |ops| chunk(STREAMING, 0, &[], ops_of(ops));
+    list.cycles(&[stream(&[(DUP, 0, 0), (RESET, 0, 0)])], 0);
+    list.stack(&[stream(&[(DUP, 0, 0), (STREAM, 0, 0)])], 0, &[]);
+    list.cycles(&[func(&[(DUP, 0, 0), (IF, 0, 1)])], 0);
+    list.stack(&[func(&[(IF, 0, 2), (ELSE, 0, 1), (END_IF, 0, 0)])], 0, &[]);
+    list.cycles(&[plain, func(&[(DUP, 0, 0), (DUP, 0, 0), (LOOP, 0, 5)])], 1);
+    list.cycles(&[func(&[(DUP, 0, 0), (BREAK, 0, 0)])], 0);
     list.stack(
-        &[func(&[(21, 0, 2), (21, 0, 3), (23, 0, 0), (23, 0, 0)])],
+        &[func(&[
+            (IF, 0, 2),
+            (IF, 0, 3),
+            (END_IF, 0, 0),
+            (END_IF, 0, 0),
+        ])],
         0,
         &[],
     );
-    list.cycles(&[limits::nested(257, &[3], None)], 0);
-    let mut open = func(&[(33, 0, 0), (32, 0, 0), (32, 0, 0)]);
+    list.cycles(&[limits::nested(257, &[Around::Body], None)], 0);
+    let mut open = func(&[(DUP, 0, 0), (YIELD, 0, 0), (YIELD, 0, 0)]);
     open.extras = vec![7, 0, u32::MAX];
     list.cycles(&[open], 0);
-    let endless = func(&[(33, 0, 0), (24, 0, 4), (32, 0, 0), (25, 0, 0)]);
+    let endless = func(&[(DUP, 0, 0), (LOOP, 0, 4), (YIELD, 0, 0), (END_LOOP, 0, 0)]);
     list.cycles(std::slice::from_ref(&endless), 0);
-    list.stack(&[func(&[(31, 0, 0)]), endless], 1, &[]);
-    let two = [func(&[(31, 0, 0)]), func(&[(30, 0, 0)])];
+    list.stack(&[func(&[(RETURN, 0, 0)]), endless], 1, &[]);
+    let two = [func(&[(RETURN, 0, 0)]), func(&[(CALL, 0, 0)])];
     list.stack(&two, 1, &[u32::MAX, 9]);
     list.stack(&two, 1, &[4_294_967_263]);
     list.cycles(&two, 2);
@@ -228,46 +239,63 @@ fn refusals(list: &mut List) {
 
 /// Refusals 4 to 8 of a sheet: chunk 0 calls chunk 2, whose refusal comes before that of chunk 1.
 fn refused_sheets(list: &mut List) {
-    let mut open = func(&[(33, 0, 0), (57, 0, 0)]);
+    let mut open = func(&[(DUP, 0, 0), (PUSH_IMMEDIATE, 0, 0)]);
     open.extras = vec![3, u32::MAX];
     let refused = [
-        chunk(2, 0, &[], ops_of(&[(33, 0, 0), (28, 0, 0)])),
-        func(&[(24, 0, 1), (25, 0, 0), (22, 0, 1)]),
-        func(&[(27, 0, 0)]),
-        limits::nested(257, &[0, 3], None),
+        chunk(STREAMING, 0, &[], ops_of(&[(DUP, 0, 0), (STREAM, 0, 0)])),
+        func(&[(LOOP, 0, 1), (END_LOOP, 0, 0), (ELSE, 0, 1)]),
+        func(&[(BREAK_IF, 0, 0)]),
+        limits::nested(257, &[Around::Arm, Around::Body], None),
         open,
     ];
     for last in refused {
-        let endless = func(&[(24, 0, 3), (32, 0, 0), (25, 0, 0)]);
-        list.sheet(&[func(&[(30, 0, 2)]), endless, last]);
+        let endless = func(&[(LOOP, 0, 3), (YIELD, 0, 0), (END_LOOP, 0, 0)]);
+        list.sheet(&[func(&[(CALL, 0, 2)]), endless, last]);
     }
 }
 
 /// Stream chunks, and Reentrant ones, which are walked whole.
 fn modes(list: &mut List) {
     let markers: [&[(u8, u8, usize)]; 3] = [
-        &[(54, 0, 0), (28, 0, 0), (5, 0, 0), (29, 0, 0), (31, 0, 0)],
-        &[(29, 0, 0), (28, 0, 0), (5, 0, 0)],
-        &[(28, 0, 0), (28, 0, 0), (29, 0, 0), (33, 0, 0), (29, 0, 0)],
+        &[
+            (CHECKED_NEG, 0, 0),
+            (STREAM, 0, 0),
+            (GET_DATA_INDEXED, 0, 0),
+            (RESET, 0, 0),
+            (RETURN, 0, 0),
+        ],
+        &[(RESET, 0, 0), (STREAM, 0, 0), (GET_DATA_INDEXED, 0, 0)],
+        &[
+            (STREAM, 0, 0),
+            (STREAM, 0, 0),
+            (RESET, 0, 0),
+            (DUP, 0, 0),
+            (RESET, 0, 0),
+        ],
     ];
     for ops in markers {
-        let held = [chunk(2, 4, &[], ops_of(ops))];
+        let held = [chunk(STREAMING, 4, &[], ops_of(ops))];
         list.cycles(&held, 0);
         list.stack(&held, 0, &[]);
     }
-    let mut yielding = worked(&[0, 3, 1]);
-    yielding.mode = 1;
-    yielding.ops.insert(9, op(32, 0, 0));
+    let mut yielding = chunk_l(&[0, 3, 1]);
+    yielding.mode = REENTRANT;
+    yielding.ops.insert(9, op(YIELD, 0, 0));
     yielding.ops[4].a = 16;
     list.cycles(&[yielding], 0);
-    list.sheet(&[chunk(1, 0, &[], ops_of(&[(32, 0, 0), (32, 0, 0)]))]);
+    list.sheet(&[chunk(
+        REENTRANT,
+        0,
+        &[],
+        ops_of(&[(YIELD, 0, 0), (YIELD, 0, 0)]),
+    )]);
 }
 
 /// Chunks that call these chunks, each with so many locals as its index.
 fn calling(callees: &[&[usize]]) -> Vec<Chunk> {
     let held = callees.iter().enumerate().map(|(c, called)| {
-        let ops = called.iter().map(|&callee| op(30, 1, callee));
-        chunk(0, c as u16, &[], ops.collect())
+        let ops = called.iter().map(|&callee| op(CALL, 1, callee));
+        chunk(FUNC, c as u16, &[], ops.collect())
     });
     held.collect()
 }
@@ -294,20 +322,20 @@ fn orders(list: &mut List) {
     // The callee of chunk 0 comes first, and with it the refusal.
     let mut open = calling(&[&[2], &[], &[]]);
     open[0].extras = vec![u32::MAX];
-    open[2].ops = ops_of(&[(33, 0, 0), (24, 0, 3), (25, 0, 0)]);
+    open[2].ops = ops_of(&[(DUP, 0, 0), (LOOP, 0, 3), (END_LOOP, 0, 0)]);
     list.sheet(&open);
     list.sheet(&typical::program());
 }
 
 /// As many words as there may be, and one more.
 fn longest(list: &mut List) {
-    let plain: Vec<u8> = (0..66)
-        .filter(|kind| !matches!(kind, 21..=31 | 50))
+    let plain: Vec<u8> = (0..OPS)
+        .filter(|&kind| !matches!(kind, IF..=RETURN | TRAP))
         .collect();
     let ops = |n: usize| (0..n).map(|i| op(plain[i % plain.len()], 0, 0)).collect();
-    list.sheet(&[chunk(0, 65_535, &[], ops(16_382))]);
-    list.cycles(&[chunk(0, 0, &[], ops(16_383))], 0);
-    let mut held = chunk(0, 0, &[], ops(5_460));
+    list.sheet(&[chunk(FUNC, 65_535, &[], ops(16_382))]);
+    list.cycles(&[chunk(FUNC, 0, &[], ops(16_383))], 0);
+    let mut held = chunk(FUNC, 0, &[], ops(5_460));
     held.extras = (0..5_460).map(|i| 800_000 - i).collect();
     list.cycles(&[held], 0);
 }
@@ -328,7 +356,7 @@ fn random_modules(list: &mut List, random: &mut Random, modules: usize) {
             2 => list.stack(&held, c, &callees),
             4 => list.order(&held, held.len()),
             _ => {
-                let p = held[c].ops.iter().position(|op| op.kind == 24);
+                let p = held[c].ops.iter().position(|op| op.kind == LOOP);
                 list.count(&held, c, p.unwrap_or(0));
             }
         }

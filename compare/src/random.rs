@@ -1,5 +1,6 @@
 //! Random modules and random damage, all from one seed.
 use crate::form::{greatest_b, uses_a, word};
+use crate::kinds::*;
 
 /// The generator splitmix64.
 pub struct Random(pub u64);
@@ -28,7 +29,7 @@ impl Random {
 
     /// An op with fields that its kind allows.
     pub fn op(&mut self) -> u32 {
-        let kind = self.byte_below(66);
+        let kind = self.byte_below(OPS);
         let b = self.below(u64::from(greatest_b(kind)) + 1) as u8;
         let a = if uses_a(kind) { self.half() } else { 0 };
         word(kind, b, a)
@@ -38,22 +39,22 @@ impl Random {
         let integer = self.below(3) > 0;
         for b in 0..4 {
             words.push(if integer {
-                word(202, b, self.half())
+                word(INTEGER, b, self.half())
             } else {
-                word(203, b, 0)
+                word(OTHER, b, 0)
             });
         }
     }
 
     pub fn extra(&mut self, words: &mut Vec<u32>) {
         for b in 0..2 {
-            words.push(word(204, b, self.half()));
+            words.push(word(EXTRA, b, self.half()));
         }
     }
 
     /// A chunk of so many constants, ops and extras.
     pub fn chunk(&mut self, words: &mut Vec<u32>, constants: usize, ops: usize, extras: usize) {
-        words.push(word(200, self.byte_below(3), self.half()));
+        words.push(word(CHUNK, self.byte_below(3), self.half()));
         for _ in 0..constants {
             self.constant(words);
         }
@@ -72,7 +73,7 @@ impl Random {
         } else {
             1 + self.below(5)
         };
-        let mut words = vec![word(199, 0, count as u16)];
+        let mut words = vec![word(MODULE, 0, count as u16)];
         for _ in 0..count {
             let constants = self.below(4) as usize;
             let ops = self.below(12) as usize;
@@ -88,12 +89,12 @@ impl Random {
             0 => self.next() as u32,
             1 => self.op(),
             2 => word(
-                self.byte_below(67),
+                self.byte_below(OPS + 1),
                 self.byte_below(5),
                 self.below(3) as u16,
             ),
             _ => word(
-                198 + self.byte_below(8),
+                MODULE - 1 + self.byte_below(8),
                 self.byte_below(5),
                 self.below(3) as u16,
             ),
@@ -123,8 +124,8 @@ impl Random {
     /// A head, a chunk's head, and words of any kind behind them.
     pub fn noise(&mut self) -> Vec<u32> {
         let mut words = vec![
-            word(199, 0, self.below(4) as u16),
-            word(200, self.byte_below(4), 1),
+            word(MODULE, 0, self.below(4) as u16),
+            word(CHUNK, self.byte_below(4), 1),
         ];
         for _ in 0..self.below(8) {
             words.push(self.any_word());

@@ -1,161 +1,169 @@
-//! Finds how much machine stack the proved cycle walk and the proved module sheet take on the modules that go deepest. A trial is a child process that makes
-//! one call in a thread of so much stack; where the stack is too small the child ends by a signal.
-use std::process::{exit, Command, Stdio};
+//! Finds how much machine stack the proved cycle walk, the proved module sheet and the program `sheet` take on the modules that go deepest. A trial of a call is
+//! a child process that makes it in a thread of so much stack; a trial of the program is its own process under `ulimit -s`. Where the stack is too small it
+//! ends by a signal.
+#[allow(dead_code)]
+mod form;
+#[allow(dead_code)]
+mod kinds;
+#[allow(dead_code)]
+mod pieces;
+#[allow(dead_code)]
+mod pinnaclemug;
+#[allow(dead_code)]
+mod refusals;
+
+use form::{MOST_CHUNKS, Op};
+use kinds::*;
+use pieces::{chunk, chunk_l, header, op, tail};
+use pinnaclemug::{Cycles, ROW, Refusal};
+use std::io::Write;
+use std::process::{Command, Stdio, exit};
 use std::thread;
 
-extern "C" {
-    fn pm_cycles(words: *const u32, length: usize, chunk: u32) -> u64;
-    fn pm_sheet(words: *const u32, length: usize, tray: *mut u32, room: usize) -> u64;
+/// What is asked for, and what must be answered: the cycles of chunk 0, or how many lines the sheet has.
+#[derive(Clone, Copy)]
+enum Asked {
+    Cycles(Result<Cycles, Refusal>),
+    Sheet(usize),
 }
 
-/// Refusal 7 at place 0, packed.
-const TOO_DEEP: u64 = 7 << 56;
-
-/// A row that ends, packed beside its cycles.
-const ENDS: u64 = 1 << 32;
-
-const GET_LOCAL: u32 = 1 << 24;
-const SET_LOCAL: u32 = 2 << 24;
-const IF: u32 = 21 << 24;
-const END_IF: u32 = 23 << 24;
-const CALL: u32 = 30 << 24;
-const RETURN: u32 = 31 << 24;
-
-/// A module, whether its sheet is asked for or the cycles of chunk 0, what must be answered, and what it shows.
+/// A module, what is asked, and what it shows.
 struct Case {
     name: &'static str,
     words: Vec<u32>,
-    sheet: bool,
-    answer: u64,
+    asked: Asked,
 }
 
-/// The cycles of one chunk.
-fn cycles(name: &'static str, ops: Vec<u32>, answer: u64) -> Case {
-    let words = module(&ops);
-    let sheet = false;
+/// One chunk with the constant 1 and these ops.
+fn module(ops: Vec<Op>) -> Vec<u32> {
+    form::write(&[chunk(FUNC, 0, &[1], ops)])
+}
+
+fn walk(name: &'static str, ops: Vec<Op>, cycles: usize, ends: bool) -> Case {
+    let answer = Cycles {
+        cycles: cycles as u32,
+        ends,
+    };
     Case {
         name,
-        words,
-        sheet,
-        answer,
+        words: module(ops),
+        asked: Asked::Cycles(Ok(answer)),
+    }
+}
+
+/// A walk that is too deep.
+fn too_deep(name: &'static str, ops: Vec<Op>) -> Case {
+    let refusal = Refusal {
+        number: refusals::TOO_DEEP,
+        chunk: 0,
+        place: 0,
+    };
+    Case {
+        name,
+        words: module(ops),
+        asked: Asked::Cycles(Err(refusal)),
     }
 }
 
 /// The sheet of a module of so many chunks, which it answers.
-fn sheet(name: &'static str, words: Vec<u32>, chunks: u64) -> Case {
-    let (sheet, answer) = (true, chunks);
+fn sheet(name: &'static str, words: Vec<u32>, chunks: usize) -> Case {
     Case {
         name,
         words,
-        sheet,
-        answer,
+        asked: Asked::Sheet(chunks),
     }
 }
 
 /// 256 chunks, each of which calls the next, the last one none.
 fn chain() -> Vec<u32> {
-    let mut words = vec![199 << 24 | 256];
-    for c in 1..=256 {
-        words.extend([200 << 24, CALL + c]);
-    }
-    words
+    let held = (1..=usize::from(MOST_CHUNKS)).map(|c| chunk(FUNC, 0, &[], vec![op(CALL, 0, c)]));
+    form::write(&held.collect::<Vec<_>>())
 }
 
 /// So many Ifs in one another around these ops; the first If is to stand at this position.
-fn ifs(at: usize, blocks: usize, inside: &[u32]) -> Vec<u32> {
+fn ifs(at: usize, blocks: usize, inside: Vec<Op>) -> Vec<Op> {
     let last = at + 2 * blocks + inside.len() - 1;
-    let mut ops: Vec<u32> = (0..blocks).map(|i| IF + (last - i) as u32).collect();
+    let mut ops: Vec<Op> = (0..blocks).map(|i| op(IF, 0, last - i)).collect();
     ops.extend(inside);
-    ops.resize(last + 1 - at, END_IF);
+    ops.extend((0..blocks).map(|_| op(END_IF, 0, 0)));
     ops
 }
 
-/// An array in slot 2, copied so often from slot 2 to slot 2, whose length is the end of a loop within so many Ifs.
-fn copies(number: usize, blocks: usize) -> Vec<u32> {
-    let mut ops = vec![34 << 24 | 1 << 16 | 5, SET_LOCAL + 2];
+/// An array of five in slot 2, copied so often from slot 2 to slot 2, whose length is the end of a loop within so many Ifs.
+fn copies(number: usize, blocks: usize) -> Vec<Op> {
+    let mut ops = vec![op(NEW_COMPOSITE, ARRAY, 5), op(SET_LOCAL, 0, 2)];
     for _ in 0..number {
-        ops.extend([GET_LOCAL + 2, SET_LOCAL + 2]);
+        ops.extend([op(GET_LOCAL, 0, 2), op(SET_LOCAL, 0, 2)]);
     }
-    ops.extend([0, SET_LOCAL, GET_LOCAL + 2, 39 << 24, SET_LOCAL + 1]);
+    ops.extend([op(CONST, 0, 0), op(SET_LOCAL, 0, 0)]);
+    ops.extend([op(GET_LOCAL, 0, 2), op(LEN, 0, 0), op(SET_LOCAL, 0, 1)]);
     let start = ops.len();
-    let target = (start + blocks + 11) as u32;
-    let counted = [
-        (24 << 24) + target,
-        GET_LOCAL,
-        GET_LOCAL + 1,
-        19 << 24,
-        27 << 24,
-        GET_LOCAL,
-        0,
-        51 << 24,
-        58 << 24 | 2 << 16,
-        SET_LOCAL,
-        25 << 24,
-    ];
-    ops.extend(ifs(start, blocks, &counted));
+    let mut counted = vec![op(LOOP, 0, start + blocks + 11)];
+    counted.extend(header(0, 1));
+    counted.extend(tail(0, 0));
+    counted.push(op(END_LOOP, 0, 0));
+    ops.extend(ifs(start, blocks, counted));
     ops
 }
 
 /// The loop of `copies` counts from 1 to 5, 12 cycles each, with 5 for the break; before it stand 12 cycles and 2 for each copy.
-fn copies_answer(number: usize, blocks: usize) -> u64 {
-    (12 + 2 * number + 2 * blocks + 1 + 4 * 12 + 5) as u64
+fn copies_cycles(number: usize, blocks: usize) -> usize {
+    12 + 2 * number + 2 * blocks + 1 + 4 * 12 + 5
 }
 
+/// The deepest walk there is: as many copies as a module has room for beside 255 blocks.
+const DEEPEST: (usize, usize) = (7_925, 255);
+
 fn cases() -> Vec<Case> {
-    let mut behind = vec![RETURN];
-    behind.extend(ifs(1, 8_000, &[]));
-    let deepest = copies(7_925, 255);
+    let mut behind = vec![op(RETURN, 0, 0)];
+    behind.extend(ifs(1, 8_000, vec![]));
+    let deepest = || copies(DEEPEST.0, DEEPEST.1);
     vec![
-        cycles("no ops", vec![], 0),
-        cycles("8,000 blocks behind Return", behind, 2 + ENDS),
-        cycles("256 blocks: walked", ifs(0, 256, &[]), 512),
-        cycles("8,000 blocks: refused", ifs(0, 8_000, &[]), TOO_DEEP),
-        cycles(
+        walk("no ops", vec![], 0, false),
+        walk("8,000 blocks behind Return", behind, 2, true),
+        walk("256 blocks: walked", ifs(0, 256, vec![]), 512, false),
+        too_deep("8,000 blocks: refused", ifs(0, 8_000, vec![])),
+        walk(
             "a count through 8,180 copies",
             copies(8_180, 0),
-            copies_answer(8_180, 0),
+            copies_cycles(8_180, 0),
+            false,
         ),
-        cycles(
+        walk(
             "the same, 7,925 in 255 blocks",
-            deepest.clone(),
-            copies_answer(7_925, 255),
+            deepest(),
+            copies_cycles(DEEPEST.0, DEEPEST.1),
+            false,
         ),
-        sheet("sheet: no ops", module(&[]), 1),
-        sheet("sheet: 256 blocks", module(&ifs(0, 256, &[])), 1),
-        sheet("sheet: 7,925 copies in 255 blocks", module(&deepest), 1),
+        sheet("sheet: no ops", module(vec![]), 1),
+        sheet("sheet: 256 blocks", module(ifs(0, 256, vec![])), 1),
+        sheet("sheet: 7,925 copies in 255 blocks", module(deepest()), 1),
         sheet("sheet: 256 chunks in a chain", chain(), 256),
     ]
 }
 
-/// One chunk with the constant 1 and these ops.
-fn module(ops: &[u32]) -> Vec<u32> {
-    let mut words = vec![199 << 24 | 1, 200 << 24, 202 << 24 | 1];
-    words.extend([
-        202 << 24 | 1 << 16,
-        202 << 24 | 2 << 16,
-        202 << 24 | 3 << 16,
-    ]);
-    words.extend(ops);
-    words
+/// The modules that the program is run on.
+fn program_cases() -> [(&'static str, Vec<u32>); 3] {
+    let deepest = module(copies(DEEPEST.0, DEEPEST.1));
+    [
+        ("program: chunk L", form::write(&[chunk_l(&[0, 3, 1])])),
+        ("program: 256 chunks in a chain", chain()),
+        ("program: 7,925 copies in 255 blocks", deepest),
+    ]
 }
 
 /// In the child: the call in a thread of so much stack.
 fn trial(case: &Case, kib: usize) {
     let words = case.words.clone();
-    let sheet = case.sheet;
-    let mut tray = vec![0; 768];
-    let call = move || {
-        // The words are lent for the call, and only read; the tray is the thread's own.
-        unsafe {
-            match sheet {
-                true => pm_sheet(words.as_ptr(), words.len(), tray.as_mut_ptr(), tray.len()),
-                false => pm_cycles(words.as_ptr(), words.len(), 0),
-            }
-        }
+    let asked = case.asked;
+    let mut tray = vec![0; ROW * usize::from(MOST_CHUNKS)];
+    let call = move || match asked {
+        Asked::Cycles(answer) => pinnaclemug::cycles(&words, 0) == answer,
+        Asked::Sheet(chunks) => pinnaclemug::sheet(&words, &mut tray) == Ok(chunks),
     };
     let thread = thread::Builder::new().stack_size(kib * 1024).spawn(call);
-    let answer = thread.expect("a thread starts").join().expect("it ends");
-    exit(if answer == case.answer { 0 } else { 1 });
+    let right = thread.expect("a thread starts").join().expect("it ends");
+    exit(if right { 0 } else { 1 });
 }
 
 /// Whether so much stack is enough for the case of this number.
@@ -173,6 +181,57 @@ fn fits(number: usize, kib: usize) -> bool {
     }
 }
 
+/// What the program has to print: the lines of the proved sheet, in call order.
+fn printed(words: &[u32]) -> String {
+    let mut order = vec![0; usize::from(MOST_CHUNKS)];
+    let mut tray = vec![0; ROW * usize::from(MOST_CHUNKS)];
+    let chunks = pinnaclemug::order(words, &mut order).expect("an order");
+    pinnaclemug::sheet(words, &mut tray).expect("a sheet");
+    let mut text = "chunk cycles peak bytes\n".to_string();
+    for &c in &order[..chunks] {
+        let at = ROW * c as usize;
+        let line: Vec<String> = tray[at..at + ROW].iter().map(u32::to_string).collect();
+        text += &format!("{c} {}\n", line.join(" "));
+    }
+    text
+}
+
+/// How often the program is run with a size before it counts as enough: where its stack begins is drawn anew at each start, by up to some KiB.
+const RUNS: usize = 20;
+
+/// Whether the program prints this text with so much stack, at each of some runs. Its environment is empty, since that stands on the stack too.
+fn program_fits(words: &[u32], text: &str, kib: usize) -> bool {
+    let bytes: Vec<u8> = words.iter().flat_map(|word| word.to_le_bytes()).collect();
+    (0..RUNS).all(|_| {
+        let mut child = Command::new("/bin/sh")
+            .args([
+                "-c",
+                "ulimit -s $0 && exec target/bin/sheet",
+                &kib.to_string(),
+            ])
+            .env_clear()
+            .stdin(Stdio::piped())
+            .stdout(Stdio::piped())
+            .stderr(Stdio::null())
+            .spawn()
+            .expect("a trial starts");
+        // A program that has ended by a signal reads no more.
+        let _ = child.stdin.take().expect("its input").write_all(&bytes);
+        let output = child.wait_with_output().expect("it ends");
+        output.status.success() && output.stdout == text.as_bytes()
+    })
+}
+
+/// The smallest size in KiB that is enough, in pages.
+fn row(name: &str, enough: impl Fn(usize) -> bool) {
+    let sizes: Vec<usize> = (4..=2_048).map(|pages| pages * 4).collect();
+    let kib = sizes[sizes.partition_point(|&kib| !enough(kib))];
+    println!(
+        "{name:<45} {kib:>8} {:>10}",
+        kib.next_power_of_two().max(64)
+    );
+}
+
 fn main() {
     let cases = cases();
     let numbers: Vec<usize> = std::env::args()
@@ -182,17 +241,15 @@ fn main() {
     if let [number, kib] = numbers[..] {
         trial(&cases[number], kib);
     }
-    let sizes: Vec<usize> = (4..=2_048).map(|pages| pages * 4).collect();
     println!(
         "{:<45} {:>8} {:>10}",
         "KiB of stack, a thread's start included", "smallest", "power of 2"
     );
     for (number, case) in cases.iter().enumerate() {
-        let kib = sizes[sizes.partition_point(|&kib| !fits(number, kib))];
-        println!(
-            "{:<45} {kib:>8} {:>10}",
-            case.name,
-            kib.next_power_of_two().max(64)
-        );
+        row(case.name, |kib| fits(number, kib));
+    }
+    for (name, words) in program_cases() {
+        let text = printed(&words);
+        row(name, |kib| program_fits(&words, &text, kib));
     }
 }

@@ -2,7 +2,9 @@
 //! question, it is document 01's, and those lines are listed.
 use crate::case::Case;
 use crate::form;
+use crate::pinnaclemug::ROW;
 use crate::questions::{self, Asked, Question};
+use crate::refusals::*;
 use crate::table::{COMPARISONS, ENDS, Expected, Outcome};
 use Expected::{Apart, Same};
 use std::collections::BTreeMap;
@@ -49,12 +51,14 @@ fn expected(question: &Question) -> Expected {
     let wanted = match asked {
         Asked::Read => return Apart("reading", Outcome::Answer(vec![chunks as i64])),
         Asked::Order => chunks,
-        Asked::Sheet => 3 * chunks,
-        _ if *chunk >= chunks => return Apart("no such chunk", Outcome::Refused(12, *chunk, 0)),
+        Asked::Sheet => ROW * chunks,
+        _ if *chunk >= chunks => {
+            return Apart("no such chunk", Outcome::Refused(NO_SUCH_CHUNK, *chunk, 0));
+        }
         _ => 0,
     };
     if *room < wanted {
-        return Apart("short tray", Outcome::Refused(13, 0, 0));
+        return Apart("short tray", Outcome::Refused(SHORT_TRAY, 0, 0));
     }
     let held = COMPARISONS.iter().find(|held| held.name == name(*asked));
     let case = Case::new(words.clone(), callees.clone());

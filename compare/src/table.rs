@@ -1,22 +1,10 @@
 //! The comparisons: for each a name, our answer and the original's, on the same input.
 use crate::case::Case;
 use crate::document::{self, Refusal};
+use crate::kinds::{REENTRANT, STREAMING};
+use crate::pinnaclemug::{self, HEIGHT, ROW};
+use crate::refusals::*;
 use crate::verify::oracle;
-
-unsafe extern "C" {
-    fn pm_count(words: *const u32, length: usize, c: u32, p: u32) -> u64;
-    fn pm_cycles(words: *const u32, length: usize, c: u32) -> u64;
-    fn pm_stack(
-        words: *const u32,
-        length: usize,
-        c: u32,
-        callees: *const u32,
-        count: usize,
-        out: *mut i64,
-    ) -> u64;
-    fn pm_order(words: *const u32, length: usize, tray: *mut u32, room: usize) -> u64;
-    fn pm_sheet(words: *const u32, length: usize, tray: *mut u32, room: usize) -> u64;
-}
 
 /// A spoilt buffer has a word changed that was to be left as it was; it is what no side expects.
 #[derive(Clone, Debug, PartialEq)]
@@ -57,7 +45,7 @@ pub const COMPARISONS: [Comparison; 8] = [
     Comparison {
         name: "cycles",
         each: Each::Chunk,
-        ours: |case, c, _| unpack_cycles(cycles(&case.words, c)),
+        ours: |case, c, _| cycles(&case.words, c),
         original: original_cycles,
     },
     Comparison {
@@ -69,11 +57,11 @@ pub const COMPARISONS: [Comparison; 8] = [
     Comparison {
         name: "count",
         each: Each::Position,
-        ours: |case, c, p| unpack_count(count(&case.words, c, p)),
+        ours: |case, c, p| count(&case.words, c, p),
         original: |case, c, p| {
             Same(match oracle::count(&case.module.chunks[c], p) {
                 Some(n) => Answer(vec![i64::from(n)]),
-                None => Refused(9, c, p),
+                None => Refused(NO_COUNT, c, p),
             })
         },
     },
@@ -92,20 +80,20 @@ pub const COMPARISONS: [Comparison; 8] = [
     Comparison {
         name: "sheet",
         each: Each::Module,
-        ours: |case, _, _| sheet(&case.words, 3 * case.chunks.len() + spare(case)),
+        ours: |case, _, _| sheet(&case.words, ROW * case.chunks.len() + spare(case)),
         original: original_sheet,
     },
     Comparison {
         name: "order, short tray",
         each: Each::Short,
         ours: |case, _, less| order(&case.words, case.chunks.len().saturating_sub(less)),
-        original: |_, _, _| Apart("short tray", Refused(13, 0, 0)),
+        original: |_, _, _| Apart("short tray", Refused(SHORT_TRAY, 0, 0)),
     },
     Comparison {
         name: "sheet, short tray",
         each: Each::Short,
-        ours: |case, _, less| sheet(&case.words, (3 * case.chunks.len()).saturating_sub(less)),
-        original: |_, _, _| Apart("short tray", Refused(13, 0, 0)),
+        ours: |case, _, less| sheet(&case.words, (ROW * case.chunks.len()).saturating_sub(less)),
+        original: |_, _, _| Apart("short tray", Refused(SHORT_TRAY, 0, 0)),
     },
 ];
 
@@ -114,36 +102,38 @@ fn spare(case: &Case) -> usize {
     case.words.len() % 6
 }
 
-pub fn cycles(words: &[u32], c: usize) -> u64 {
-    // The words are lent for the call, and only read.
-    unsafe { pm_cycles(words.as_ptr(), words.len(), c as u32) }
+/// A refusal of the proved side.
+fn unpacked(refusal: pinnaclemug::Refusal) -> Outcome {
+    Refused(
+        refusal.number,
+        refusal.chunk as usize,
+        refusal.place as usize,
+    )
 }
 
-pub fn count(words: &[u32], c: usize, p: usize) -> u64 {
-    // The words are lent for the call, and only read.
-    unsafe { pm_count(words.as_ptr(), words.len(), c as u32, p as u32) }
+/// The cycles, and 1 if the row ends.
+pub fn cycles(words: &[u32], c: usize) -> Outcome {
+    match pinnaclemug::cycles(words, c as u32) {
+        Ok(walk) => Answer(vec![i64::from(walk.cycles), i64::from(walk.ends)]),
+        Err(refusal) => unpacked(refusal),
+    }
+}
+
+pub fn count(words: &[u32], c: usize, p: usize) -> Outcome {
+    match pinnaclemug::count(words, c as u32, p as u32) {
+        Ok(passes) => Answer(vec![i64::from(passes)]),
+        Err(refusal) => unpacked(refusal),
+    }
 }
 
 /// The stack walk's peak, delta and bytes. A refusal has to leave the lent array as it was.
 pub fn stack(words: &[u32], c: usize, callees: &[u32]) -> Outcome {
-    let before = [i64::MIN, 77, -5];
+    let before: [i64; HEIGHT] = [i64::MIN, 77, -5];
     let mut out = before;
-    // The words and the callees are lent for the call, and only read; the array has room for three numbers.
-    let packed = unsafe {
-        pm_stack(
-            words.as_ptr(),
-            words.len(),
-            c as u32,
-            callees.as_ptr(),
-            callees.len(),
-            out.as_mut_ptr(),
-        )
-    };
-    match packed {
-        0 => Answer(out.to_vec()),
-        1 if out[1] == 0 => Answer(vec![out[0], ENDS, out[2]]),
-        1 => Spoilt,
-        _ if out == before => unpack_refusal(packed),
+    match pinnaclemug::stack(words, c as u32, callees, &mut out) {
+        Ok(false) => Answer(out.to_vec()),
+        Ok(true) if out[1] == 0 => Answer(vec![out[0], ENDS, out[2]]),
+        Err(refusal) if out == before => unpacked(refusal),
         _ => Spoilt,
     }
 }
@@ -155,16 +145,18 @@ fn pattern(i: usize) -> u32 {
 
 /// A function with a tray of so much room, each chunk having `wide` words of it: the numbers in the tray, and all words beyond them, or on a refusal all there
 /// are, as they were.
-fn with_tray(room: usize, wide: usize, call: impl FnOnce(&mut [u32]) -> u64) -> Outcome {
+fn with_tray(
+    room: usize,
+    wide: usize,
+    call: impl FnOnce(&mut [u32]) -> Result<usize, pinnaclemug::Refusal>,
+) -> Outcome {
     let mut tray: Vec<u32> = (0..room).map(pattern).collect();
-    let packed = call(&mut tray);
-    let (outcome, written) = match unpack_count(packed) {
-        Answer(chunks) => {
-            let written = wide * chunks[0] as usize;
-            let numbers = tray[..written].iter().map(|&word| i64::from(word));
-            (Answer(numbers.collect()), written)
+    let (outcome, written) = match call(&mut tray) {
+        Ok(chunks) => {
+            let numbers = tray[..wide * chunks].iter().map(|&word| i64::from(word));
+            (Answer(numbers.collect()), wide * chunks)
         }
-        refused => (refused, 0),
+        Err(refusal) => (unpacked(refusal), 0),
     };
     let left = (written..room).all(|i| tray[i] == pattern(i));
     if left { outcome } else { Spoilt }
@@ -172,47 +164,12 @@ fn with_tray(room: usize, wide: usize, call: impl FnOnce(&mut [u32]) -> u64) -> 
 
 /// The call order in a tray of so much room.
 pub fn order(words: &[u32], room: usize) -> Outcome {
-    // The words are lent for the call, and only read; the tray is handed over with its length.
-    with_tray(room, 1, |tray| unsafe {
-        pm_order(words.as_ptr(), words.len(), tray.as_mut_ptr(), tray.len())
-    })
-}
-
-/// The module sheet into this tray: its packed outcome.
-pub fn fill_sheet(words: &[u32], tray: &mut [u32]) -> u64 {
-    // The words are lent for the call, and only read; the tray is handed over with its length.
-    unsafe { pm_sheet(words.as_ptr(), words.len(), tray.as_mut_ptr(), tray.len()) }
+    with_tray(room, 1, |tray| pinnaclemug::order(words, tray))
 }
 
 /// The module sheet in a tray of so much room.
 pub fn sheet(words: &[u32], room: usize) -> Outcome {
-    with_tray(room, 3, |tray| fill_sheet(words, tray))
-}
-
-/// A refusal has its number above 56 bits, its chunk above 32, and its place below.
-fn unpack_refusal(packed: u64) -> Outcome {
-    let chunk = packed >> 32 & 0xff_ffff;
-    Refused(
-        (packed >> 56) as u32,
-        chunk as usize,
-        (packed & 0xffff_ffff) as usize,
-    )
-}
-
-/// An answer is the count.
-pub fn unpack_count(packed: u64) -> Outcome {
-    match packed >> 32 {
-        0 => Answer(vec![packed as i64]),
-        _ => unpack_refusal(packed),
-    }
-}
-
-/// An answer is 32 bits of cycles below the flag that the row ends.
-pub fn unpack_cycles(packed: u64) -> Outcome {
-    match packed >> 32 {
-        ends @ 0..=1 => Answer(vec![i64::from(packed as u32), ends as i64]),
-        _ => unpack_refusal(packed),
-    }
+    with_tray(room, ROW, |tray| pinnaclemug::sheet(words, tray))
 }
 
 pub fn refused(refusal: Refusal, c: usize) -> Outcome {
@@ -228,11 +185,11 @@ fn crossed(chunk: &crate::bytecode::Chunk, c: usize) -> Expected {
     } else {
         "no row, refused by the original too"
     };
-    Apart(reason, Refused(6, c, 0))
+    Apart(reason, Refused(CROSSED, c, 0))
 }
 
 fn original_cycles(case: &Case, c: usize, _: usize) -> Expected {
-    if document::chunk_row(&case.chunks[c]).err() == Some(Refusal(6, 0)) {
+    if document::chunk_row(&case.chunks[c]).err() == Some(Refusal(CROSSED, 0)) {
         return crossed(&case.module.chunks[c], c);
     }
     Same(match oracle::cycles(&case.module.chunks[c]) {
@@ -243,8 +200,8 @@ fn original_cycles(case: &Case, c: usize, _: usize) -> Expected {
 
 /// Our cycles; in a Stream chunk with those of Stream and Reset, which the original adds.
 fn our_public_cycles(case: &Case, c: usize, _: usize) -> Outcome {
-    match unpack_cycles(cycles(&case.words, c)) {
-        Answer(values) if case.chunks[c].mode == 2 => {
+    match cycles(&case.words, c) {
+        Answer(values) if case.chunks[c].mode == STREAMING => {
             Answer(vec![(values[0] + 2).min(i64::from(u32::MAX))])
         }
         Answer(values) => Answer(vec![values[0]]),
@@ -256,13 +213,13 @@ fn original_public_cycles(case: &Case, c: usize, p: usize) -> Expected {
     let ours = || our_public_cycles(case, c, p);
     let chunk = &case.module.chunks[c];
     match document::chunk_row(&case.chunks[c]).err() {
-        Some(Refusal(6, 0)) => return Apart("no row", Refused(6, c, 0)),
-        Some(refusal @ Refusal(3 | 4, 0)) if oracle::forward(chunk).is_err() => {
+        Some(Refusal(CROSSED, 0)) => return Apart("no row", Refused(CROSSED, c, 0)),
+        Some(refusal @ Refusal(NO_STREAM | NO_RESET, 0)) if oracle::forward(chunk).is_err() => {
             return Apart("the original tests targets first", refused(refusal, c));
         }
         _ => {}
     }
-    if case.chunks[c].mode == 1 {
+    if case.chunks[c].mode == REENTRANT {
         return Apart("Reentrant: the original cuts at yields", ours());
     }
     Same(match oracle::public_cycles(chunk) {
@@ -275,12 +232,12 @@ fn original_public_cycles(case: &Case, c: usize, p: usize) -> Expected {
 pub const ENDS: i64 = i64::MAX;
 
 fn original_stack(case: &Case, c: usize, callees: &[u32]) -> Expected {
-    if document::chunk_row(&case.chunks[c]).err() == Some(Refusal(6, 0)) {
-        return Apart("no row", Refused(6, c, 0));
+    if document::chunk_row(&case.chunks[c]).err() == Some(Refusal(CROSSED, 0)) {
+        return Apart("no row", Refused(CROSSED, c, 0));
     }
     match oracle::stack(&case.module.chunks[c], callees) {
         Ok((peak, _, _)) if document::too_tall(case.chunks[c].locals, i64::from(peak)) => {
-            Apart("too tall", Refused(11, c, 0))
+            Apart("too tall", Refused(TOO_TALL, c, 0))
         }
         Ok((peak, delta, bytes)) => Same(Answer(vec![
             i64::from(peak),
@@ -294,7 +251,7 @@ fn original_stack(case: &Case, c: usize, callees: &[u32]) -> Expected {
 fn listed(order: Result<Vec<usize>, usize>) -> Outcome {
     match order {
         Ok(order) => Answer(order.into_iter().map(|c| c as i64).collect()),
-        Err(c) => Refused(10, c, 0),
+        Err(c) => Refused(RING, c, 0),
     }
 }
 
@@ -302,9 +259,9 @@ fn listed(order: Result<Vec<usize>, usize>) -> Outcome {
 fn original_sheet(case: &Case, _: usize, _: usize) -> Expected {
     let order = match oracle::order(&case.module) {
         Ok(order) => order,
-        Err(c) => return Same(Refused(10, c, 0)),
+        Err(c) => return Same(Refused(RING, c, 0)),
     };
-    let mut lines = vec![0; 3 * order.len()];
+    let mut lines = vec![0; ROW * order.len()];
     let mut bytes = vec![0; order.len()];
     for c in order {
         let cost = match original_cycles(case, c, 0) {
@@ -316,7 +273,7 @@ fn original_sheet(case: &Case, _: usize, _: usize) -> Expected {
             Same(Answer(stack)) => stack,
             other => return other,
         };
-        lines[3 * c..3 * c + 3].copy_from_slice(&[cost[0], stack[0], stack[2]]);
+        lines[ROW * c..ROW * (c + 1)].copy_from_slice(&[cost[0], stack[0], stack[2]]);
         bytes[c] = stack[2] as u32;
     }
     // `module_wcmu` goes through the module by itself, and has to find the same bytes.

@@ -1,15 +1,15 @@
 //! Times of the proved functions and of the original on the same words.
 use crate::bytecode::Module;
 use crate::case;
-use crate::every::{self, chunk};
 use crate::form::{self, Chunk};
-use crate::limits;
-use crate::picks::op;
-use crate::table;
+use crate::kinds::*;
+use crate::limits::{self, Around};
+use crate::pieces::{chunk, chunk_l, header, op, tail};
+use crate::pinnaclemug::{self, Cycles, ROW};
 use crate::typical;
 use crate::verify::oracle;
 use std::hint::black_box;
-use std::time::Instant;
+use std::time::{Duration, Instant};
 
 /// Nanoseconds a word of one round.
 fn round<T>(words: &[u32], calls: usize, mut work: impl FnMut() -> T) -> f64 {
@@ -28,8 +28,13 @@ fn parsed(words: &[u32]) -> Module {
     case::module(&chunks)
 }
 
-/// The fastest of 60 rounds each: ours, the original with a plain reading before it, and the original alone. The three come in turns, so that none has the
-/// quieter machine; a round makes some 100,000 words of calls.
+/// How many rounds are made: the most, and the fewest where they take longer than this.
+const ROUNDS: usize = 60;
+const FEWEST: usize = 5;
+const LONG: Duration = Duration::from_secs(4);
+
+/// The fastest of 60 rounds each, or of fewer where they take long: ours, the original with a plain reading before it, and the original alone. The three come
+/// in turns, so that none has the quieter machine; a round makes some 100,000 words of calls.
 fn timed<T, U>(
     name: &str,
     words: &[u32],
@@ -39,7 +44,11 @@ fn timed<T, U>(
     let module = parsed(words);
     let calls = 1 + 100_000 / words.len();
     let mut best = [f64::MAX; 3];
-    for _ in 0..60 {
+    let start = Instant::now();
+    for made in 0..ROUNDS {
+        if made >= FEWEST && start.elapsed() > LONG {
+            break;
+        }
         let met = [
             round(words, calls, || ours(black_box(words))),
             round(words, calls, || original(&parsed(black_box(words)))),
@@ -60,15 +69,15 @@ fn timed<T, U>(
 /// The whole module: `pm_sheet`, and what the original has for a sheet. Both have to give the same lines.
 fn sheet(name: &str, chunks: &[Chunk]) {
     let words = form::write(chunks);
-    let mut tray = vec![0; 3 * chunks.len()];
-    let packed = table::fill_sheet(&words, &mut tray);
-    assert_eq!(packed, chunks.len() as u64, "{name} has a sheet");
+    let mut tray = vec![0; ROW * chunks.len()];
+    let lines = pinnaclemug::sheet(&words, &mut tray);
+    assert_eq!(lines, Ok(chunks.len()), "{name} has a sheet");
     assert_eq!(
         Some(&tray),
         oracle::sheet(&parsed(&words)).as_ref(),
         "{name}"
     );
-    let ours = |words: &[u32]| table::fill_sheet(words, &mut tray);
+    let ours = |words: &[u32]| pinnaclemug::sheet(words, &mut tray);
     timed(name, &words, ours, oracle::sheet);
 }
 
@@ -76,10 +85,10 @@ fn sheet(name: &str, chunks: &[Chunk]) {
 fn cycles(name: &str, chunks: &[Chunk]) {
     let words = form::write(chunks);
     let original = |module: &Module| oracle::cycles(&module.chunks[0]);
-    let (cost, ends) = original(&parsed(&words)).expect("an answer");
-    let packed = table::cycles(&words, 0);
-    assert_eq!(packed, u64::from(ends) << 32 | u64::from(cost), "{name}");
-    timed(name, &words, |words| table::cycles(words, 0), original);
+    let (cycles, ends) = original(&parsed(&words)).expect("an answer");
+    let ours = |words: &[u32]| pinnaclemug::cycles(words, 0);
+    assert_eq!(ours(&words), Ok(Cycles { cycles, ends }), "{name}");
+    timed(name, &words, ours, original);
 }
 
 /// One chunk of plain ops alone, a module of so many words.
@@ -88,7 +97,7 @@ fn plain(words: usize) -> Vec<Chunk> {
         0,
         0,
         &[],
-        (0..words - 2).map(|_| op(33, 0, 0)).collect(),
+        (0..words - 2).map(|_| op(DUP, 0, 0)).collect(),
     )]
 }
 
@@ -98,25 +107,25 @@ fn blocks(n: usize) -> Vec<Chunk> {
     for _ in 0..n {
         let i = ops.len();
         ops.extend([
-            op(0, 0, 0),
-            op(21, 0, i + 4),
-            op(32, 0, 0),
-            op(22, 0, i + 5),
-            op(33, 0, 0),
-            op(23, 0, 0),
+            op(CONST, 0, 0),
+            op(IF, 0, i + 4),
+            op(YIELD, 0, 0),
+            op(ELSE, 0, i + 5),
+            op(DUP, 0, 0),
+            op(END_IF, 0, 0),
         ]);
     }
-    vec![chunk(0, 0, &[], ops)]
+    vec![chunk(FUNC, 0, &[], ops)]
 }
 
 /// Chunk L's loop as often as so many words have room for, its values set before each.
 fn loops(words: usize) -> Vec<Chunk> {
-    let mut held = every::worked(&[0, 3, 1]);
+    let mut held = chunk_l(&[0, 3, 1]);
     held.ops.pop();
     let one: Vec<_> = held.ops.drain(..).collect();
     for k in 0..(words - 14) / one.len() {
         for part in &one {
-            let target = if part.kind == 24 { 15 * k as u16 } else { 0 };
+            let target = if part.kind == LOOP { 15 * k as u16 } else { 0 };
             held.ops.push(form::Op {
                 a: part.a + target,
                 ..*part
@@ -126,12 +135,35 @@ fn loops(words: usize) -> Vec<Chunk> {
     vec![held]
 }
 
+/// As many counted loops as so many words have room for. Their starts are all set at the front of the chunk and their common end first of all, so that both
+/// values of each are searched back past the loops before it.
+fn far_back(words: usize) -> Vec<Chunk> {
+    let loops = (words - 16) / 13;
+    let mut ops = vec![op(CONST, 0, 1), op(SET_LOCAL, 0, 0)];
+    for v in 1..=loops {
+        ops.extend([op(CONST, 0, 0), op(SET_LOCAL, 0, v)]);
+    }
+    for v in 1..=loops {
+        ops.push(op(LOOP, 0, ops.len() + 11));
+        ops.extend(header(v, 0));
+        ops.extend(tail(v, 2));
+        ops.push(op(END_LOOP, 0, 0));
+    }
+    vec![chunk(FUNC, loops as u16 + 1, &[0, 3, 1], ops)]
+}
+
+/// So many counted loops in one another, 15 ops each, around a body of plain ops that makes up so many words.
+fn around(loops: usize, words: usize) -> Vec<Chunk> {
+    let inside = (0..words - 14 - 15 * loops).map(|_| op(DUP, 0, 0));
+    vec![limits::counted(loops, 3, inside.collect())]
+}
+
 /// Chunks of so many ops that call each other in a chain, each the next.
 fn calling(chunks: usize, length: usize) -> Vec<Chunk> {
     let one = |c| {
-        let mut ops: Vec<_> = (0..length).map(|_| op(32, 0, 0)).collect();
-        ops[length / 2] = op(30, 0, c + 1);
-        chunk(0, 1, &[], ops)
+        let mut ops: Vec<_> = (0..length).map(|_| op(YIELD, 0, 0)).collect();
+        ops[length / 2] = op(CALL, 0, c + 1);
+        chunk(FUNC, 1, &[], ops)
     };
     (0..chunks.min(256)).map(one).collect()
 }
@@ -153,33 +185,71 @@ fn heading(of: &str) {
     );
 }
 
-/// The ratio is ours by the original with the reading, since ours reads the words too.
-pub fn print() {
+/// A class of modules by about how many words they have.
+type Class = (&'static str, fn(usize) -> Vec<Chunk>);
+
+/// The classes whose time a word grows with the words on both sides.
+const SEARCHING: [Class; 3] = [
+    ("loop ends set far back", far_back),
+    ("64 loops around a long body", |words| around(64, words)),
+    ("254 loops around a long body", |words| around(254, words)),
+];
+
+/// The sheet of a class at growing sizes.
+fn growth((name, class): Class, sizes: &[usize]) {
+    for &words in sizes {
+        sheet(&format!("{name}, {words}"), &class(words));
+    }
+}
+
+fn sheets() {
     heading("sheet");
     sheet("plain ops, one chunk", &plain(16_002));
     sheet("256 chunks in a chain", &chain(16_000));
     sheet(
         "255 blocks in one another",
-        &[limits::nested(255, &[0], None)],
+        &[limits::nested(255, &[Around::Arm], None)],
     );
     sheet("counted loops", &loops(16_000));
+    for (name, class) in SEARCHING {
+        sheet(name, &class(16_000));
+    }
     sheet("typical program", &typical::program());
     sheet("256 small chunks in a chain", &calling(256, 2));
-    sheet("chunk L", &[every::worked(&[0, 3, 1])]);
+    sheet("chunk L", &[chunk_l(&[0, 3, 1])]);
     sheet("one chunk of one op", &calling(1, 1));
-    let growing: [(&str, fn(usize) -> Vec<Chunk>); 3] =
-        [("plain", plain), ("loops", loops), ("chain", chain)];
-    for (name, class) in growing {
-        for words in [1_000, 2_000, 4_000, 8_000, 16_000] {
-            sheet(&format!("{name}, about {words} words"), &class(words));
-        }
+}
+
+fn sheets_growing() {
+    heading("sheet growing");
+    let even: [Class; 3] = [("plain", plain), ("loops", loops), ("chain", chain)];
+    for class in even {
+        growth(class, &[1_000, 2_000, 4_000, 8_000, 16_000]);
     }
+    let [far, few, many] = SEARCHING;
+    growth(far, &[2_000, 4_000, 8_000, 16_000]);
+    growth(few, &[2_000, 4_000, 8_000, 16_000]);
+    // 254 loops are 3,824 words by themselves.
+    growth(many, &[4_000, 8_000, 16_000]);
+}
+
+fn walks() {
     heading("cycles of chunk 0");
     cycles("plain ops, one chunk", &plain(16_002));
     cycles("blocks one after another", &blocks(2_730));
     cycles(
         "255 blocks in one another",
-        &[limits::nested(255, &[0], None)],
+        &[limits::nested(255, &[Around::Arm], None)],
     );
     cycles("counted loops", &loops(16_000));
+    for (name, class) in SEARCHING {
+        cycles(name, &class(16_000));
+    }
+}
+
+/// The ratio is ours by the original with the reading, since ours reads the words too.
+pub fn print() {
+    sheets();
+    sheets_growing();
+    walks();
 }

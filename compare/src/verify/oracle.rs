@@ -2,6 +2,8 @@
 use super::*;
 use crate::bytecode::{NOMINAL_COST_MODEL, VALUE_SLOT_SIZE_BYTES};
 use crate::document::Refusal;
+use crate::pinnaclemug::ROW;
+use crate::refusals::*;
 
 /// The number behind some words of a message.
 fn behind(message: &str, words: &str) -> usize {
@@ -19,17 +21,17 @@ fn behind(message: &str, words: &str) -> usize {
 fn refusal(error: VerifyError) -> Refusal {
     let message = error.message.as_str();
     if message == "Stream block missing Stream instruction" {
-        Refusal(3, 0)
+        Refusal(NO_STREAM, 0)
     } else if message == "Stream block missing Reset instruction" {
-        Refusal(4, 0)
+        Refusal(NO_RESET, 0)
     } else if message.contains("which is not a forward position") {
-        Refusal(5, behind(message, " at "))
+        Refusal(BACKWARD, behind(message, " at "))
     } else if message.starts_with("control-flow regions nest deeper") {
-        Refusal(7, 0)
+        Refusal(TOO_DEEP, 0)
     } else if message.starts_with("text operation at") {
-        Refusal(8, behind(message, "instruction "))
+        Refusal(OPEN_TEXT, behind(message, "instruction "))
     } else if message.contains("no statically extractable iteration bound") {
-        Refusal(9, behind(message, "instruction "))
+        Refusal(NO_COUNT, behind(message, "instruction "))
     } else {
         panic!("an error that document 01 has no number for: {message}")
     }
@@ -43,8 +45,8 @@ pub fn range(chunk: &Chunk) -> Result<(usize, usize), Refusal> {
     let stream = chunk.ops.iter().position(|op| matches!(op, Op::Stream));
     let reset = chunk.ops.iter().position(|op| matches!(op, Op::Reset));
     Ok((
-        stream.ok_or(Refusal(3, 0))? + 1,
-        reset.ok_or(Refusal(4, 0))?,
+        stream.ok_or(Refusal(NO_STREAM, 0))? + 1,
+        reset.ok_or(Refusal(NO_RESET, 0))?,
     ))
 }
 
@@ -110,7 +112,7 @@ pub fn module_bytes(module: &Module) -> Option<Vec<u32>> {
 pub fn sheet(module: &Module) -> Option<Vec<u32>> {
     let slot = VALUE_SLOT_SIZE_BYTES;
     let mut known = vec![Some((0, 0)); module.chunks.len()];
-    let mut lines = vec![0; 3 * module.chunks.len()];
+    let mut lines = vec![0; ROW * module.chunks.len()];
     for c in order(module).ok()? {
         let chunk = &module.chunks[c];
         let (cost, _) = cycles(chunk).ok()?;
@@ -121,7 +123,7 @@ pub fn sheet(module: &Module) -> Option<Vec<u32>> {
         };
         let walk = wcmu_region(chunk, start, end, &mut Vec::new(), &resolver, slot).ok()?;
         let bytes = (u32::from(chunk.local_count) + walk.peak_above_initial) * slot;
-        lines[3 * c..3 * c + 3].copy_from_slice(&[cost, walk.peak_above_initial, bytes]);
+        lines[ROW * c..ROW * (c + 1)].copy_from_slice(&[cost, walk.peak_above_initial, bytes]);
         known[c] = Some((bytes, 0));
     }
     Some(lines)

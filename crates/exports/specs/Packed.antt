@@ -7,24 +7,32 @@ use Rattle.rules.specs.Outcome.{Outcome, answer, refused}
 use Rattle.rules.specs.Cycles.{Cycles}
 use Rattle.rules.specs.Stack.{Stack, Delta, offset, ends}
 
--- the reader: an answer has the number 0 and is the value; a refusal has its own number, and its place is the value
-abbrev pub packed : Outcome ℕ → ℕ
-packed (answer n) = n
-packed (refused n c p) = n * 4294967296 + p
+-- how many numbers, chunks and places a refusal is kept whole for
+abbrev pub numbers : ℕ
+numbers = 256
 
--- A refusal of the others: number, chunk and place in 8, 24 and 32 bits. Numbers end at 13, chunks and positions of a module at 16,384;
--- a chunk or a position that is handed in is kept whole below 2^24 and 2^32.
+abbrev pub chunks : ℕ
+chunks = 16777216
+
+abbrev pub places : ℕ
+places = 4294967296
+
+-- A refusal: number, chunk and place in 8, 24 and 32 bits. Numbers are 1 to 13, chunks and positions of a module end at 16,384; a chunk or a position that
+-- is handed in is kept modulo 2^24 and 2^32. No answer reaches the bits of the number.
 abbrev pub packedRefusal : ℕ → ℕ → ℕ → ℕ
-packedRefusal n c p = n % 256 * 72057594037927936 + c % 16777216 * 4294967296 + p % 4294967296
+packedRefusal n c p = n % numbers * (chunks * places) + c % chunks * places + p % places
 
--- the count alone
-abbrev pub packedCount : Outcome ℕ → ℕ
-packedCount (answer n) = n
-packedCount (refused n c p) = packedRefusal n c p
+-- an answer that is a number: the chunks of the reader, a count, how many chunks stand in a tray
+abbrev pub packedNumber : Outcome ℕ → ℕ
+packedNumber (answer n) = n
+packedNumber (refused n c p) = packedRefusal n c p
 
 -- the ends flag above 32 bits of cycles
+abbrev pub endsFlag : ℕ
+endsFlag = 4294967296
+
 abbrev pub packedEnds : Bool → ℕ → ℕ
-packedEnds true c = c + 4294967296
+packedEnds true c = c + endsFlag
 packedEnds false c = c
 
 abbrev pub packedCycles : Outcome Cycles → ℕ

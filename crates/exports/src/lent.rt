@@ -14,7 +14,7 @@ ghost use lib.ListN.{length};
 ghost use Rattle.rules.specs.Sheet.{stackOutcome, orderOutcome, orderTray, sheetOutcome, sheetTray};
 ghost use Rattle.order.specs.Entry.{lengthOf};
 ghost use Rattle.sheets.specs.Module.{countOf};
-ghost use Rattle.exports.specs.Packed.{packedCount, packedStack, stackNumbers};
+ghost use Rattle.exports.specs.Packed.{packedNumber, packedStack, stackNumbers};
 
 // The three numbers of a stack walk.
 fn store(out: &mut [i64], peak: u32, delta: i64, bytes: u32)
@@ -27,7 +27,6 @@ fn store(out: &mut [i64], peak: u32, delta: i64, bytes: u32)
 }
 
 // The stack walk of chunk c over the callees' bytes: peak, delta (0 where the row ends) and bytes into out; 1 where the row ends, else 0.
-// In C: uint64_t pm_stack(const uint32_t *words, size_t length, uint32_t c, const uint32_t *callees, size_t count, int64_t out[3]).
 #[no_mangle]
 pub extern "C" fn pm_stack(words: &[u32], c: u32, callees: &[u32], out: &mut [i64; 3]) -> u64
     ensures answer { λ r. ⌜ r ≡ packedStack (stackOutcome (now (words .entry)) c (now (callees .entry))) ⌝ }
@@ -53,10 +52,10 @@ pub extern "C" fn pm_stack(words: &[u32], c: u32, callees: &[u32], out: &mut [i6
     }
 }
 
-// The call order into the tray: how many chunks stand there. In C: uint64_t pm_order(const uint32_t *words, size_t length, uint32_t *tray, size_t room).
+// The call order into the tray: how many chunks stand there.
 #[no_mangle]
 pub extern "C" fn pm_order(words: &[u32], tray: &mut [u32]) -> u64
-    ensures answer { λ r. ⌜ r ≡ packedCount (lengthOf (orderOutcome (now (words .entry)) (length (now (tray .entry))))) ⌝ }
+    ensures answer { λ r. ⌜ r ≡ packedNumber (lengthOf (orderOutcome (now (words .entry)) (length (now (tray .entry))))) ⌝ }
     ensures written { λ r. ⌜ now (tray .exit) ≡ orderTray (orderOutcome (now (words .entry)) (length (now (tray .entry)))) (now (tray .entry)) ⌝ }
 {
     let answer = topological_call_order(words, tray);
@@ -70,11 +69,10 @@ pub extern "C" fn pm_order(words: &[u32], tray: &mut [u32]) -> u64
     }
 }
 
-// The module sheet into the tray: how many chunks have their lines there. In C: uint64_t pm_sheet(const uint32_t *words, size_t length, uint32_t *tray,
-// size_t room).
+// The module sheet into the tray: how many chunks have their lines there.
 #[no_mangle]
 pub extern "C" fn pm_sheet(words: &[u32], tray: &mut [u32]) -> u64
-    ensures answer { λ r. ⌜ r ≡ packedCount (countOf (sheetOutcome (now (words .entry)) (length (now (tray .entry))))) ⌝ }
+    ensures answer { λ r. ⌜ r ≡ packedNumber (countOf (sheetOutcome (now (words .entry)) (length (now (tray .entry))))) ⌝ }
     ensures written { λ r. ⌜ now (tray .exit) ≡ sheetTray (sheetOutcome (now (words .entry)) (length (now (tray .entry)))) (now (tray .entry)) ⌝ }
 {
     let answer = module_sheet(words, tray);

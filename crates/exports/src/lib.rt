@@ -1,4 +1,4 @@
-// The proved functions under plain names, for programs in other languages to link.
+// The proved functions under plain names, for programs in other languages to link: include/pinnaclemug.h has their C signatures, and how a refusal is packed.
 pub mod lent;
 
 use count::entry::CountAnswer;
@@ -9,33 +9,45 @@ use words::reader::Reading;
 use words::reader::read_module;
 ghost use mathlib.Core.Path.{_≡_};
 ghost use Rattle.rules.specs.Sheet.{readOutcome, countOutcome, cyclesOutcome};
-ghost use Rattle.exports.specs.Packed.{packed, packedCount, packedCycles, packedRefusal};
+ghost use Rattle.exports.specs.Packed.{packedNumber, packedCycles, packedRefusal};
 
-// The reader: the chunk count, or the refusal's number times 2^32 plus its place. In C: uint64_t pm_read(const uint32_t *words, size_t length).
+// How many numbers, chunks and places a refusal is kept whole for: 2^8, 2^24 and 2^32.
+const NUMBERS: u64 = 256;
+
+const CHUNKS: u64 = 16777216;
+
+const PLACES: u64 = 4294967296;
+
+// What a refusal's number stands for: 2^56.
+const NUMBER_UNIT: u64 = CHUNKS * PLACES;
+
+// A row that ends, above 32 bits of cycles.
+const ENDS: u64 = 4294967296;
+
+// A refusal as one number: eight bits of its number, 24 of its chunk and 32 of its place. That is all of each but where a chunk or a position that is
+// handed in is greater.
+fn pack_refusal(number: u32, chunk: usize, place: usize) -> u64
+    ensures { λ r. ⌜ r ≡ packedRefusal number chunk place ⌝ }
+{
+    number as u64 % NUMBERS * NUMBER_UNIT + chunk as u64 % CHUNKS * PLACES + place as u64 % PLACES
+}
+
+// The reader: the chunk count.
 #[no_mangle]
 pub extern "C" fn pm_read(words: &[u32]) -> u64
-    ensures { λ r. ⌜ r ≡ packed (readOutcome (now (words .entry))) ⌝ }
+    ensures { λ r. ⌜ r ≡ packedNumber (readOutcome (now (words .entry))) ⌝ }
 {
     let reading = read_module(words);
     match reading {
         Reading::Accepted(n) => n as u64,
-        Reading::Refused { number, place } => number as u64 * 4294967296 + place as u64,
+        Reading::Refused { number, place } => pack_refusal(number, 0, place),
     }
 }
 
-// A refusal as one number: eight bits of its number, 24 of its chunk and 32 of its place, which is all of each in a module.
-fn pack_refusal(number: u32, chunk: usize, place: usize) -> u64
-    ensures { λ r. ⌜ r ≡ packedRefusal number chunk place ⌝ }
-{
-    (number % 256) as u64 * 72057594037927936
-        + (chunk % 16777216) as u64 * 4294967296
-        + (place % 4294967296) as u64
-}
-
-// The count of the loop at position p of chunk c. In C: uint64_t pm_count(const uint32_t *words, size_t length, uint32_t c, uint32_t p).
+// The count of the loop at position p of chunk c.
 #[no_mangle]
 pub extern "C" fn pm_count(words: &[u32], c: u32, p: u32) -> u64
-    ensures { λ r. ⌜ r ≡ packedCount (countOutcome (now (words .entry)) c p) ⌝ }
+    ensures { λ r. ⌜ r ≡ packedNumber (countOutcome (now (words .entry)) c p) ⌝ }
 {
     let answer = loop_count(words, c as usize, p as usize);
     match answer {
@@ -48,7 +60,7 @@ pub extern "C" fn pm_count(words: &[u32], c: u32, p: u32) -> u64
     }
 }
 
-// The cycle walk of chunk c: its cycles, and 2^32 more if its row ends. In C: uint64_t pm_cycles(const uint32_t *words, size_t length, uint32_t c).
+// The cycle walk of chunk c: its cycles, and 2^32 more if its row ends.
 #[no_mangle]
 pub extern "C" fn pm_cycles(words: &[u32], c: u32) -> u64
     ensures { λ r. ⌜ r ≡ packedCycles (cyclesOutcome (now (words .entry)) c) ⌝ }
@@ -57,7 +69,7 @@ pub extern "C" fn pm_cycles(words: &[u32], c: u32) -> u64
     match answer {
         CyclesAnswer::Are { cycles, ends } => {
             if ends {
-                return cycles as u64 + 4294967296;
+                return cycles as u64 + ENDS;
             }
             cycles as u64
         }

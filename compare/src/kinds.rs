@@ -1,0 +1,91 @@
+//! Document 01's kinds of words by their names: the ops in their order, then the head of a module and of a chunk, the constants and the extra. And the values
+//! of a field b that it names.
+pub const CONST: u8 = 0;
+pub const GET_LOCAL: u8 = 1;
+pub const SET_LOCAL: u8 = 2;
+pub const GET_DATA: u8 = 3;
+pub const SET_DATA: u8 = 4;
+pub const GET_DATA_INDEXED: u8 = 5;
+pub const SET_DATA_INDEXED: u8 = 6;
+pub const BOUNDS_CHECK: u8 = 7;
+pub const ADD: u8 = 8;
+pub const SUB: u8 = 9;
+pub const MUL: u8 = 10;
+pub const DIV: u8 = 11;
+pub const MOD: u8 = 12;
+pub const NEG: u8 = 13;
+pub const CMP_EQ: u8 = 14;
+pub const CMP_NE: u8 = 15;
+pub const CMP_LT: u8 = 16;
+pub const CMP_GT: u8 = 17;
+pub const CMP_LE: u8 = 18;
+pub const CMP_GE: u8 = 19;
+pub const NOT: u8 = 20;
+pub const IF: u8 = 21;
+pub const ELSE: u8 = 22;
+pub const END_IF: u8 = 23;
+pub const LOOP: u8 = 24;
+pub const END_LOOP: u8 = 25;
+pub const BREAK: u8 = 26;
+pub const BREAK_IF: u8 = 27;
+pub const STREAM: u8 = 28;
+pub const RESET: u8 = 29;
+pub const CALL: u8 = 30;
+pub const RETURN: u8 = 31;
+pub const YIELD: u8 = 32;
+pub const DUP: u8 = 33;
+pub const NEW_COMPOSITE: u8 = 34;
+pub const GET_FIELD: u8 = 35;
+pub const GET_INDEX: u8 = 36;
+pub const GET_TUPLE_FIELD: u8 = 37;
+pub const GET_ENUM_FIELD: u8 = 38;
+pub const LEN: u8 = 39;
+pub const IS_ENUM: u8 = 40;
+pub const IS_STRUCT: u8 = 41;
+pub const INT_TO_FLOAT: u8 = 42;
+pub const FLOAT_TO_INT: u8 = 43;
+pub const WORD_TO_BYTE: u8 = 44;
+pub const BYTE_TO_WORD: u8 = 45;
+pub const WORD_TO_FIXED: u8 = 46;
+pub const FIXED_TO_WORD: u8 = 47;
+pub const FIXED_MUL: u8 = 48;
+pub const FIXED_DIV: u8 = 49;
+pub const TRAP: u8 = 50;
+pub const CHECKED_ADD: u8 = 51;
+pub const CHECKED_SUB: u8 = 52;
+pub const CHECKED_MUL: u8 = 53;
+pub const CHECKED_NEG: u8 = 54;
+pub const CHECKED_DIV: u8 = 55;
+pub const CHECKED_MOD: u8 = 56;
+pub const PUSH_IMMEDIATE: u8 = 57;
+pub const POP_N: u8 = 58;
+pub const BIT_AND: u8 = 59;
+pub const BIT_OR: u8 = 60;
+pub const BIT_XOR: u8 = 61;
+pub const SHL: u8 = 62;
+pub const SHR: u8 = 63;
+pub const CALL_VERIFIED_NATIVE: u8 = 64;
+pub const CALL_EXTERNAL_NATIVE: u8 = 65;
+
+/// How many kinds of ops there are: they are the kinds below it.
+pub const OPS: u8 = 66;
+
+pub const MODULE: u8 = 199;
+pub const CHUNK: u8 = 200;
+pub const INTEGER: u8 = 202;
+pub const OTHER: u8 = 203;
+pub const EXTRA: u8 = 204;
+
+/// The types of a chunk.
+pub const FUNC: u8 = 0;
+pub const REENTRANT: u8 = 1;
+pub const STREAMING: u8 = 2;
+
+/// The kinds of a composite.
+pub const TUPLE: u8 = 0;
+pub const ARRAY: u8 = 1;
+pub const STRUCT: u8 = 2;
+pub const ENUM: u8 = 3;
+
+/// GetIndex with a bounds outcome.
+pub const BOUNDED: u8 = 1;

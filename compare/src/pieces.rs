@@ -1,0 +1,89 @@
+//! The pieces that the inputs are made of: ops, a chunk of them, a counted loop's header and tail, and chunk L.
+use crate::form::{Chunk, Constant, Op};
+use crate::kinds::*;
+
+pub fn op(kind: u8, b: u8, a: usize) -> Op {
+    Op {
+        kind,
+        b,
+        a: a as u16,
+    }
+}
+
+/// The header test of a loop that counts slot v up to slot e.
+pub fn header(v: usize, e: usize) -> [Op; 4] {
+    [
+        op(GET_LOCAL, 0, v),
+        op(GET_LOCAL, 0, e),
+        op(CMP_GE, 0, 0),
+        op(BREAK_IF, 0, 0),
+    ]
+}
+
+/// The tail of such a loop, which adds the constant of this index to slot v.
+pub fn tail(v: usize, step: usize) -> [Op; 5] {
+    [
+        op(GET_LOCAL, 0, v),
+        op(CONST, 0, step),
+        op(CHECKED_ADD, 0, 0),
+        op(POP_N, 2, 0),
+        op(SET_LOCAL, 0, v),
+    ]
+}
+
+pub fn chunk(mode: u8, locals: u16, constants: &[i64], ops: Vec<Op>) -> Chunk {
+    Chunk {
+        locals,
+        mode,
+        constants: constants
+            .iter()
+            .map(|&value| Constant::Int(value))
+            .collect(),
+        ops,
+        extras: Vec::new(),
+    }
+}
+
+/// Chunk L of document 01 with other constants: its ops are `Const 0, SetLocal 0, Const 1, SetLocal 1, Loop 15, GetLocal 0, GetLocal 1, CmpGe, BreakIf 15,
+/// GetLocal 0, Const 2, CheckedAdd, PopN 2, SetLocal 0, EndLoop 5, Return`.
+pub fn chunk_l(constants: &[i64]) -> Chunk {
+    let set = [
+        op(CONST, 0, 0),
+        op(SET_LOCAL, 0, 0),
+        op(CONST, 0, 1),
+        op(SET_LOCAL, 0, 1),
+    ];
+    let header = [
+        op(LOOP, 0, 15),
+        op(GET_LOCAL, 0, 0),
+        op(GET_LOCAL, 0, 1),
+        op(CMP_GE, 0, 0),
+        op(BREAK_IF, 0, 15),
+    ];
+    let tail = [
+        op(GET_LOCAL, 0, 0),
+        op(CONST, 0, 2),
+        op(CHECKED_ADD, 0, 0),
+        op(POP_N, 2, 0),
+        op(SET_LOCAL, 0, 0),
+        op(END_LOOP, 0, 5),
+    ];
+    let ops = set.into_iter().chain(header).chain(tail);
+    chunk(FUNC, 2, constants, ops.chain([op(RETURN, 0, 0)]).collect())
+}
+
+/// The same with the end from an array: its literal, a copy of it, and its length.
+pub fn chunk_l_array(length: usize) -> Chunk {
+    let mut held = chunk_l(&[0, 3, 1]);
+    let array = [
+        op(NEW_COMPOSITE, ARRAY, length),
+        op(SET_LOCAL, 0, 2),
+        op(GET_LOCAL, 0, 2),
+        op(SET_LOCAL, 0, 3),
+        op(GET_LOCAL, 0, 3),
+        op(LEN, 0, 0),
+    ];
+    held.ops.splice(2..3, array);
+    held.ops[9].a = 20;
+    held
+}
