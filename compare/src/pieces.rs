@@ -10,6 +10,14 @@ pub fn op(kind: u8, b: u8, a: usize) -> Op {
     }
 }
 
+/// Ops by the names of their kinds, each with its field a and, behind the letter b, its field b, where they are not 0.
+macro_rules! ops {
+    ($($kind:ident $($a:literal)? $(b $b:tt)?),* $(,)?) => {
+        vec![$(crate::pieces::op(crate::kinds::$kind, 0 $(+ $b)?, 0 $(+ $a)?)),*]
+    };
+}
+pub(crate) use ops;
+
 /// The header test of a loop that counts slot v up to slot e.
 pub fn header(v: usize, e: usize) -> [Op; 4] {
     [

@@ -103,7 +103,7 @@ fn spare(case: &Case) -> usize {
 }
 
 /// A refusal of the proved side.
-fn unpacked(refusal: pinnaclemug::Refusal) -> Outcome {
+pub fn unpacked(refusal: pinnaclemug::Refusal) -> Outcome {
     Refused(
         refusal.number,
         refusal.chunk as usize,

@@ -12,10 +12,32 @@ use sheets::module::module_sheet;
 use stack::entry::StackAnswer;
 use stack::entry::stack_walk;
 use stack::height::Delta;
+use words::limits::CHUNKS;
 use words::reader::Reading;
 use words::reader::read_module;
 ghost use Prim.Native.Nat.{_≤_};
 ghost use lib.ListN.{length};
+ghost use Rattle.replay.specs.Buffers.{trayRoom};
+
+// The most numbers of a tray: a row a chunk, and a number more for each.
+pub const TRAY: usize = (WIDTH + 1) * CHUNKS;
+
+// What stands in a tray before the call.
+const MARK: u32 = 9;
+
+// The questions by their numbers.
+const READ: u32 = 1;
+
+const COUNT: u32 = 2;
+
+const CYCLES: u32 = 3;
+
+// The only question with callees.
+pub const STACK: u32 = 4;
+
+const ORDER: u32 = 5;
+
+const SHEET: u32 = 6;
 
 fn write(text: &[u8]) {
     io::write_all(STDOUT_FILENO, text);
@@ -50,16 +72,15 @@ fn wide(w: u32) -> u64 {
     w as u64
 }
 
-// The first n numbers of a tray, or all if it has fewer.
-fn write_numbers(tray: &[u32; 1024], n: usize) {
+// All numbers of a tray of so much room, what the call left as it was among them.
+fn write_tray(tray: &[u32; TRAY], room: usize) {
+    write(b", tray");
     let mut i = 0;
-    while i < 1024 {
-        if n <= i {
+    while i < TRAY {
+        if room <= i {
             return;
         }
-        if 0 < i {
-            write(b" ");
-        }
+        write(b" ");
         write_number(wide(tray[i]));
         i += 1;
     }
@@ -138,20 +159,21 @@ fn order_front(words: &[u32], tray: &mut [u32], room: usize) -> OrderAnswer
     topological_call_order(words, &mut tray[..room])
 }
 
-// The chunks in call order.
+// How many chunks are listed, and the tray.
 fn show_order(words: &[u32], room: usize)
-    requires { ⌜ room ≤ 1024 ⌝ }
+    requires { ⌜ room ≤ trayRoom ⌝ }
 {
-    let mut tray = [0u32; 1024];
+    let mut tray = [MARK; TRAY];
     let answer = order_front(words, &mut tray, room);
     match answer {
-        OrderAnswer::Listed(n) => write_numbers(&tray, n as usize),
+        OrderAnswer::Listed(n) => write_number(n as u64),
         OrderAnswer::Refused {
             number,
             chunk,
             place,
         } => write_refused(number, chunk, place),
     }
+    write_tray(&tray, room);
 }
 
 // The module sheet in the first words of a tray.
@@ -161,33 +183,34 @@ fn sheet_front(words: &[u32], tray: &mut [u32], room: usize) -> SheetAnswer
     module_sheet(words, &mut tray[..room])
 }
 
-// Cycles, peak and bytes of each chunk, by chunk index.
+// How many chunks have a line, and the tray.
 fn show_sheet(words: &[u32], room: usize)
-    requires { ⌜ room ≤ 1024 ⌝ }
+    requires { ⌜ room ≤ trayRoom ⌝ }
 {
-    let mut tray = [0u32; 1024];
+    let mut tray = [MARK; TRAY];
     let answer = sheet_front(words, &mut tray, room);
     match answer {
-        SheetAnswer::Lines(n) => write_numbers(&tray, WIDTH * n as usize),
+        SheetAnswer::Lines(n) => write_number(n as u64),
         SheetAnswer::Refused {
             number,
             chunk,
             place,
         } => write_refused(number, chunk, place),
     }
+    write_tray(&tray, room);
 }
 
-// The questions by their numbers. A number that none has is answered by an empty line.
+// The answer of a question. A number that none has is answered by an empty line.
 pub fn answer(question: u32, words: &[u32], c: usize, p: usize, callees: &[u32], room: usize)
-    requires { ⌜ room ≤ 1024 ⌝ }
+    requires { ⌜ room ≤ trayRoom ⌝ }
 {
     match question {
-        1 => show_read(words),
-        2 => show_count(words, c, p),
-        3 => show_cycles(words, c),
-        4 => show_stack(words, c, callees),
-        5 => show_order(words, room),
-        6 => show_sheet(words, room),
+        READ => show_read(words),
+        COUNT => show_count(words, c, p),
+        CYCLES => show_cycles(words, c),
+        STACK => show_stack(words, c, callees),
+        ORDER => show_order(words, room),
+        SHEET => show_sheet(words, room),
         _ => {}
     }
     write(b"\n");

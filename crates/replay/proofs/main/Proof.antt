@@ -2,7 +2,6 @@
 -- Assumes nothing.
 use Prim.Native.Nat.{_≤_}
 use borrow.Author.Needs.{needs}
-use borrow.Author.Needs.{needs}
 use Rattle.replay.proofs.main.Statement.{statement}
 use Rattle.replay.proofs.main.Tie as tie
 
