@@ -3,7 +3,7 @@ use crate::case::Case;
 use crate::counts::Counts;
 use crate::form::{Chunk, Op};
 use crate::kinds::*;
-use crate::pieces::{chunk, chunk_l, op};
+use crate::pieces::{chunk, chunk_l, op, ops};
 use crate::refusals::*;
 use crate::table::{COMPARISONS, Outcome, refused};
 use crate::verify::oracle;
@@ -69,87 +69,66 @@ fn public(name: &'static str, chunk: Chunk, ours: Outcome, original: Outcome) ->
     }
 }
 
-fn parts() -> Vec<Part> {
-    let answer = |cycles, ends: bool| Answer(vec![cycles, i64::from(ends)]);
-    let stream = |ops| chunk(STREAMING, 0, &[], ops);
-    let reentrant = |ops| chunk(REENTRANT, 0, &[], ops);
-    let mut yielding = chunk_l(&[0, 3, 1]);
-    yielding.mode = REENTRANT;
-    yielding.ops.insert(9, op(YIELD, 0, 0));
-    yielding.ops[4].a = 16;
+fn answer(cycles: i64, ends: bool) -> Outcome {
+    Answer(vec![cycles, i64::from(ends)])
+}
+
+/// Ranges that are no row.
+fn rows() -> Vec<Part> {
     // If 2, If 40, If 4, If 40, ..: each If to the end is walked twice over, inside the If before it and behind that.
     let twice = |i: usize| op(IF, 0, if i % 2 == 0 { i + 2 } else { 40 });
-    let mut outside = crossed(
-        "If past the range",
-        vec![
-            op(STREAM, 0, 0),
-            op(IF, 0, 3),
-            op(RESET, 0, 0),
-            op(END_IF, 0, 0),
-        ],
-        answer(3, false),
-    );
+    let twice = (0..40).map(twice).collect();
+    let past = ops![STREAM, IF 3, RESET, END_IF];
+    let mut outside = crossed("If past the range", past, answer(3, false));
     outside.chunk.mode = STREAMING;
+    let endless = ops![LOOP 3, BREAK, YIELD];
+    let crossing = ops![IF 2, IF 3, END_IF, END_IF];
     vec![
-        crossed("If to the length", vec![op(IF, 0, 1)], answer(1, false)),
-        crossed("EndIf alone", vec![op(END_IF, 0, 0)], answer(1, false)),
-        crossed("EndLoop alone", vec![op(END_LOOP, 0, 0)], answer(1, false)),
-        crossed("Else alone", vec![op(ELSE, 0, 1)], answer(1, false)),
-        crossed("Break in no loop", vec![op(BREAK, 0, 0)], answer(1, true)),
-        crossed(
-            "BreakIf in no loop",
-            vec![op(BREAK_IF, 0, 0)],
-            answer(1, false),
-        ),
-        crossed(
-            "Loop with no body",
-            vec![op(LOOP, 0, 1)],
-            Refused(NO_COUNT, 0, 0),
-        ),
-        crossed(
-            "Loop with no EndLoop",
-            vec![op(LOOP, 0, 3), op(BREAK, 0, 0), op(YIELD, 0, 0)],
-            answer(2, false),
-        ),
-        crossed(
-            "Ifs that cross",
-            vec![
-                op(IF, 0, 2),
-                op(IF, 0, 3),
-                op(END_IF, 0, 0),
-                op(END_IF, 0, 0),
-            ],
-            answer(6, false),
-        ),
-        crossed(
-            "40 Ifs that cross",
-            (0..40).map(twice).collect(),
-            answer(57_310, false),
-        ),
+        crossed("If to the length", ops![IF 1], answer(1, false)),
+        crossed("EndIf alone", ops![END_IF], answer(1, false)),
+        crossed("EndLoop alone", ops![END_LOOP], answer(1, false)),
+        crossed("Else alone", ops![ELSE 1], answer(1, false)),
+        crossed("Break in no loop", ops![BREAK], answer(1, true)),
+        crossed("BreakIf in no loop", ops![BREAK_IF], answer(1, false)),
+        crossed("Loop with no body", ops![LOOP 1], Refused(NO_COUNT, 0, 0)),
+        crossed("Loop with no EndLoop", endless, answer(2, false)),
+        crossed("Ifs that cross", crossing, answer(6, false)),
+        crossed("40 Ifs that cross", twice, answer(57_310, false)),
         outside,
         Part {
             name: "too tall",
             of: Stack,
-            chunk: chunk(FUNC, 1, &[], vec![op(CALL, 0, 0)]),
+            chunk: chunk(FUNC, 1, &[], ops![CALL]),
             callee: u32::MAX,
             ours: Refused(TOO_TALL, 0, 0),
             original: Answer(vec![134_217_727, 1, 0]),
         },
+    ]
+}
+
+/// What the original's public functions do beside the walk.
+fn functions() -> Vec<Part> {
+    let held = |mode, ops| chunk(mode, 0, &[], ops);
+    let mut yielding = chunk_l(&[0, 3, 1]);
+    yielding.mode = REENTRANT;
+    yielding.ops.insert(9, op(YIELD, 0, 0));
+    yielding.ops[4].a = 16;
+    vec![
         public(
             "Stream and Reset charged",
-            stream(vec![op(STREAM, 0, 0), op(RESET, 0, 0)]),
+            held(STREAMING, ops![STREAM, RESET]),
             answer(0, false),
             Answer(vec![2]),
         ),
         public(
             "targets tested before Stream is looked for",
-            stream(vec![op(IF, 0, 0)]),
+            held(STREAMING, ops![IF]),
             Refused(NO_STREAM, 0, 0),
             Refused(BACKWARD, 0, 0),
         ),
         public(
             "a Reentrant chunk cut at its yields",
-            reentrant(vec![op(YIELD, 0, 0), op(YIELD, 0, 0)]),
+            held(REENTRANT, ops![YIELD, YIELD]),
             answer(2, false),
             Answer(vec![1]),
         ),
@@ -164,7 +143,7 @@ fn parts() -> Vec<Part> {
 
 /// Each input has to give both answers.
 pub fn all(counts: &mut Counts) {
-    for part in parts() {
+    for part in rows().into_iter().chain(functions()) {
         let case = Case::new(crate::form::write(&[part.chunk]), vec![part.callee]);
         let row = if part.of == Stack { "stack" } else { "cycles" };
         let comparison = COMPARISONS.iter().find(|held| held.name == row);

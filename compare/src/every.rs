@@ -73,10 +73,43 @@ pub fn flat(
     each(make, |chunk| see(Case::of(&[chunk])));
 }
 
+/// An If, with an Else or without.
+fn arms(choices: &mut Choices, ops: &mut Vec<Op>, room: &mut u64, loops: usize) {
+    let from = ops.len();
+    ops.push(op(IF, 0, 0));
+    row(choices, ops, room, loops);
+    if *room > 0 && choices.below(2) == 1 {
+        *room -= 1;
+        let other = ops.len();
+        ops.push(op(ELSE, 0, 0));
+        ops[from].a = other as u16 + 1;
+        row(choices, ops, room, loops);
+        ops[other].a = ops.len() as u16;
+    } else {
+        ops[from].a = ops.len() as u16;
+    }
+    ops.push(op(END_IF, 0, 0));
+}
+
+/// A Loop, counted or not.
+fn body(choices: &mut Choices, ops: &mut Vec<Op>, room: &mut u64, loops: usize, counted: bool) {
+    let from = ops.len();
+    let v = 2 * (loops % 2);
+    ops.push(op(LOOP, 0, 0));
+    if counted {
+        ops.extend(header(v, v + 1));
+    }
+    row(choices, ops, room, loops + 1);
+    if counted {
+        ops.extend(tail(v, 2));
+    }
+    ops.push(op(END_LOOP, 0, 0));
+    ops[from].a = ops.len() as u16;
+}
+
 /// A row of at most so many items, written behind `ops`; counted loops use the locals 0 and 1, or 2 and 3, which were set before.
 fn row(choices: &mut Choices, ops: &mut Vec<Op>, room: &mut u64, loops: usize) {
     while *room > 0 {
-        let i = ops.len();
         let k = choices.below(if loops > 0 { 9 } else { 7 });
         *room -= 1;
         match k {
@@ -84,36 +117,9 @@ fn row(choices: &mut Choices, ops: &mut Vec<Op>, room: &mut u64, loops: usize) {
             1 => ops.push(op(CONST, 0, 0)),
             2 => ops.push(op(POP_N, 2, 0)),
             3 => ops.push(op(TRAP, 0, 0)),
-            4 => {
-                ops.push(op(IF, 0, 0));
-                row(choices, ops, room, loops);
-                if *room > 0 && choices.below(2) == 1 {
-                    *room -= 1;
-                    let other = ops.len();
-                    ops.push(op(ELSE, 0, 0));
-                    ops[i].a = other as u16 + 1;
-                    row(choices, ops, room, loops);
-                    ops[other].a = ops.len() as u16;
-                } else {
-                    ops[i].a = ops.len() as u16;
-                }
-                ops.push(op(END_IF, 0, 0));
-            }
-            5 => {
-                ops.push(op(LOOP, 0, 0));
-                row(choices, ops, room, loops + 1);
-                ops.push(op(END_LOOP, 0, 0));
-                ops[i].a = ops.len() as u16;
-            }
-            6 => {
-                let v = 2 * (loops % 2);
-                ops.push(op(LOOP, 0, 0));
-                ops.extend(header(v, v + 1));
-                row(choices, ops, room, loops + 1);
-                ops.extend(tail(v, 2));
-                ops.push(op(END_LOOP, 0, 0));
-                ops[i].a = ops.len() as u16;
-            }
+            4 => arms(choices, ops, room, loops),
+            5 => body(choices, ops, room, loops, false),
+            6 => body(choices, ops, room, loops, true),
             7 => ops.push(op(BREAK, 0, 0)),
             _ => ops.push(op(BREAK_IF, 0, 0)),
         }

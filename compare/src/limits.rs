@@ -2,7 +2,7 @@
 use crate::case::Case;
 use crate::form::{Chunk, Op};
 use crate::kinds::*;
-use crate::pieces::{chunk, chunk_l, chunk_l_array, header, op, tail};
+use crate::pieces::{chunk, chunk_l, chunk_l_array, header, op, ops, tail};
 use crate::refusals::*;
 use crate::table::{self, Outcome};
 
@@ -117,37 +117,39 @@ fn nesting(see: &mut impl FnMut(Case)) {
     see(Case::of(&[nested(8190, &[Arm], None)]));
 }
 
+/// Starts of a loop, and distances of its end.
+const STARTS: [i64; 11] = [
+    0,
+    1,
+    -1,
+    5,
+    1 << 31,
+    1 << 32,
+    -(1 << 32),
+    i64::MAX,
+    i64::MAX - 1,
+    i64::MIN,
+    i64::MIN + 1,
+];
+const DISTANCES: [i64; 12] = [
+    -2,
+    -1,
+    0,
+    1,
+    2,
+    3,
+    (1 << 32) - 2,
+    (1 << 32) - 1,
+    1 << 32,
+    (1 << 32) + 1,
+    i64::MAX,
+    i64::MIN,
+];
+
 /// Counts about 2^32 and the limits of 64 bits.
 fn counts(see: &mut impl FnMut(Case)) {
-    let starts = [
-        0,
-        1,
-        -1,
-        5,
-        1 << 31,
-        1 << 32,
-        -(1 << 32),
-        i64::MAX,
-        i64::MAX - 1,
-        i64::MIN,
-        i64::MIN + 1,
-    ];
-    let distances = [
-        -2,
-        -1,
-        0,
-        1,
-        2,
-        3,
-        (1 << 32) - 2,
-        (1 << 32) - 1,
-        1 << 32,
-        (1 << 32) + 1,
-        i64::MAX,
-        i64::MIN,
-    ];
-    for start in starts {
-        for distance in distances {
+    for start in STARTS {
+        for distance in DISTANCES {
             for step in [1, 2, 0, -1, i64::MAX, i64::MIN] {
                 let stop = start.wrapping_add(distance);
                 see(Case::of(&[chunk_l(&[start, stop, step])]));
@@ -254,148 +256,82 @@ fn refused(number: u32, place: usize) -> Option<Outcome> {
 }
 
 fn open_text(at: usize) -> Chunk {
-    let mut held = chunk(FUNC, 0, &[], vec![op(RETURN, 0, 0), op(YIELD, 0, 0)]);
+    let mut held = chunk(FUNC, 0, &[], ops![RETURN, YIELD]);
     held.extras = vec![0, 0];
     held.extras[at] = u32::MAX;
     held
 }
 
-pub fn cases() -> Vec<Worked> {
-    let ends = table::ENDS;
-    let trapped = vec![
-        op(CONST, 0, 0),
-        op(IF, 0, 4),
-        op(TRAP, 0, 0),
-        op(ELSE, 0, 5),
-        op(YIELD, 0, 0),
-        op(END_IF, 0, 0),
-        op(RETURN, 0, 0),
-    ];
-    let call = |locals| chunk(FUNC, locals, &[], vec![op(CALL, 0, 0)]);
+/// A case of the cycle walk alone.
+fn walk(name: &'static str, held: Chunk, said: Option<Outcome>) -> Worked {
+    (name, held, vec![], said, None)
+}
+
+/// A case of both walks, with no callees.
+fn walks(
+    name: &'static str,
+    held: Chunk,
+    cycles: Option<Outcome>,
+    stack: Option<Outcome>,
+) -> Worked {
+    (name, held, vec![], cycles, stack)
+}
+
+/// A Call alone of the greatest callee, by the stack walk.
+fn greatest(name: &'static str, locals: u16, said: Option<Outcome>) -> Worked {
+    let held = chunk(FUNC, locals, &[], ops![CALL]);
+    (name, held, vec![u32::MAX], None, said)
+}
+
+/// Chunk L and its constants.
+fn counted_cases() -> Vec<Worked> {
+    let l = |start, end| chunk_l(&[start, end, 1]);
+    let far = || refused(NO_COUNT, 4);
+    let tall = stack(3, table::ENDS, 160);
+    let most = cycles(4_294_967_295, true);
     vec![
-        (
-            "chunk L",
-            chunk_l(&[0, 3, 1]),
-            vec![],
-            cycles(48, true),
-            stack(3, ends, 160),
-        ),
-        (
-            "constant 1 made 0",
-            chunk_l(&[0, 0, 1]),
-            vec![],
-            cycles(12, true),
-            None,
-        ),
-        (
-            "made -1",
-            chunk_l(&[0, -1, 1]),
-            vec![],
-            cycles(12, true),
-            None,
-        ),
-        (
-            "made 2^32 - 1",
-            chunk_l(&[0, (1 << 32) - 1, 1]),
-            vec![],
-            cycles(4_294_967_295, true),
-            None,
-        ),
-        (
-            "made 2^32",
-            chunk_l(&[0, 1 << 32, 1]),
-            vec![],
-            refused(NO_COUNT, 4),
-            refused(NO_COUNT, 4),
-        ),
-        (
-            "start -1, end 2^63 - 1",
-            chunk_l(&[-1, i64::MAX, 1]),
-            vec![],
-            refused(NO_COUNT, 4),
-            refused(NO_COUNT, 4),
-        ),
-        (
-            "Else charged to an ended arm",
-            chunk(FUNC, 0, &[], trapped),
-            vec![],
-            cycles(7, true),
-            None,
-        ),
-        (
-            "no ops, locals 3",
-            chunk(FUNC, 3, &[], vec![]),
-            vec![],
-            cycles(0, false),
-            stack(0, 0, 96),
-        ),
-        (
-            "open text",
-            open_text(0),
-            vec![],
-            refused(OPEN_TEXT, 0),
-            None,
-        ),
-        (
-            "open text behind a Return",
-            open_text(1),
-            vec![],
-            cycles(2, true),
-            None,
-        ),
-        (
-            "256 blocks",
-            nested(256, &[Arm], None),
-            vec![],
-            cycles(512, false),
-            None,
-        ),
-        (
-            "257 blocks",
-            nested(257, &[Arm], None),
-            vec![],
-            refused(TOO_DEEP, 0),
-            refused(TOO_DEEP, 0),
-        ),
-        (
-            "If to the length",
-            chunk(FUNC, 0, &[], vec![op(IF, 0, 1)]),
-            vec![],
-            refused(CROSSED, 0),
-            refused(CROSSED, 0),
-        ),
-        (
-            "Loop to the length",
-            chunk(
-                FUNC,
-                0,
-                &[],
-                vec![op(LOOP, 0, 3), op(BREAK, 0, 0), op(END_LOOP, 0, 0)],
-            ),
-            vec![],
-            cycles(2, false),
-            None,
-        ),
-        (
-            "Reset before Stream",
-            chunk(STREAMING, 0, &[], vec![op(RESET, 0, 0), op(STREAM, 0, 0)]),
-            vec![],
-            cycles(0, false),
-            stack(0, 0, 0),
-        ),
-        (
-            "greatest callee",
-            call(0),
-            vec![u32::MAX],
-            None,
-            stack(134_217_727, 1, 4_294_967_264),
-        ),
-        (
-            "greatest callee, one local",
-            call(1),
-            vec![u32::MAX],
-            None,
-            refused(TOO_TALL, 0),
-        ),
+        walks("chunk L", l(0, 3), cycles(48, true), tall),
+        walk("constant 1 made 0", l(0, 0), cycles(12, true)),
+        walk("made -1", l(0, -1), cycles(12, true)),
+        walk("made 2^32 - 1", l(0, (1 << 32) - 1), most),
+        walks("made 2^32", l(0, 1 << 32), far(), far()),
+        walks("start -1, end 2^63 - 1", l(-1, i64::MAX), far(), far()),
     ]
+}
+
+/// Rows, ranges, extras and nesting.
+fn row_cases() -> Vec<Worked> {
+    let func = |ops| chunk(FUNC, 0, &[], ops);
+    let trapped = func(ops![CONST, IF 4, TRAP, ELSE 5, YIELD, END_IF, RETURN]);
+    let empty = chunk(FUNC, 3, &[], vec![]);
+    let nothing = chunk(STREAMING, 0, &[], ops![RESET, STREAM]);
+    let looped = func(ops![LOOP 3, BREAK, END_LOOP]);
+    let blocks = |n| nested(n, &[Arm], None);
+    let deep = || refused(TOO_DEEP, 0);
+    let crossed = || refused(CROSSED, 0);
+    let none = || cycles(0, false);
+    vec![
+        walk("Else charged to an ended arm", trapped, cycles(7, true)),
+        walks("no ops, locals 3", empty, none(), stack(0, 0, 96)),
+        walk("open text", open_text(0), refused(OPEN_TEXT, 0)),
+        walk("open text behind a Return", open_text(1), cycles(2, true)),
+        walk("256 blocks", blocks(256), cycles(512, false)),
+        walks("257 blocks", blocks(257), deep(), deep()),
+        walks("If to the length", func(ops![IF 1]), crossed(), crossed()),
+        walk("Loop to the length", looped, cycles(2, false)),
+        walks("Reset before Stream", nothing, none(), stack(0, 0, 0)),
+    ]
+}
+
+pub fn cases() -> Vec<Worked> {
+    let most = stack(134_217_727, 1, 4_294_967_264);
+    let mut cases = counted_cases();
+    cases.extend(row_cases());
+    cases.push(greatest("greatest callee", 0, most));
+    cases.push(greatest(
+        "greatest callee, one local",
+        1,
+        refused(TOO_TALL, 0),
+    ));
+    cases
 }

@@ -1,7 +1,7 @@
 //! Random modules whose ops are mostly rows: arms, counted loops, breaks, traps and calls, with near misses of each.
 use crate::form::{Chunk, Constant, Op, uses_a};
 use crate::kinds::*;
-use crate::pieces::op;
+use crate::pieces::{header, op, tail};
 use crate::random::Random;
 
 /// Where the Calls of a module may lead, besides out of it.
@@ -31,6 +31,12 @@ impl Maker<'_> {
         self.ops.len() - 1
     }
 
+    fn push_all(&mut self, ops: &[Op]) {
+        for held in ops {
+            self.push(held.kind, held.b, usize::from(held.a));
+        }
+    }
+
     /// The index of a constant of this value, which is put in if there is none yet.
     fn constant(&mut self, value: i64) -> usize {
         let is = |held: &Constant| matches!(held, Constant::Int(v) if *v == value);
@@ -43,7 +49,7 @@ impl Maker<'_> {
 
     fn plain(&mut self) {
         let held = self.random.plain();
-        self.push(held.kind, held.b, usize::from(held.a));
+        self.push_all(&[held]);
     }
 
     fn call(&mut self) {
@@ -184,14 +190,8 @@ impl Maker<'_> {
         }
         let from = self.push(LOOP, 0, 0);
         let operand = self.random.below(20) as usize;
-        for (kind, a) in [
-            (GET_LOCAL, v),
-            (GET_LOCAL, e),
-            (CMP_GE, 0),
-            (BREAK_IF, operand),
-        ] {
-            self.push(kind, 0, a);
-        }
+        self.push_all(&header(v, e));
+        self.ops[from + 4].a = operand as u16;
         self.row(depth - 1, true);
         let step = match self.random.below(8) {
             0 => self.random.value(),
@@ -199,15 +199,7 @@ impl Maker<'_> {
             _ => 1,
         };
         let step = self.constant(step);
-        for (kind, b, a) in [
-            (GET_LOCAL, 0, v),
-            (CONST, 0, step),
-            (CHECKED_ADD, 0, 0),
-            (POP_N, 2, 0),
-            (SET_LOCAL, 0, v),
-        ] {
-            self.push(kind, b, a);
-        }
+        self.push_all(&tail(v, step));
         self.close(from);
         if self.random.one_in(3) {
             self.miss(start);

@@ -1,6 +1,6 @@
 //! The stack walk of small chunks: peak, delta and bytes.
 use super::{List, Question};
-use crate::form::{Chunk, Op};
+use crate::form::{Chunk, Op, word};
 use crate::kinds::*;
 use crate::limits::{self, Around};
 use crate::pieces::{chunk, chunk_l, op, ops};
@@ -24,7 +24,7 @@ fn chunks(list: &mut List) {
     list.stack("chunk 2 of two", &two, 2, &[])
         .refused(NO_SUCH_CHUNK, 2, 0);
     list.stack_words("no words", &[]).refused(BAD_HEAD, 0, 0);
-    let head = crate::form::word(MODULE, 0, 2);
+    let head = word(MODULE, 0, 2);
     list.stack_words("chunk missing", &[head])
         .refused(BAD_WORD, 0, 1);
 }

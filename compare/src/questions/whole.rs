@@ -3,7 +3,7 @@ use super::List;
 use crate::form::{self, Chunk, MOST_WORDS, Op};
 use crate::kinds::*;
 use crate::limits;
-use crate::pieces::{chunk, op, ops};
+use crate::pieces::{chunk, chunk_l, op, ops};
 use crate::programs;
 use crate::random::Random;
 
@@ -58,7 +58,7 @@ pub fn worked_cases(list: &mut List) {
             list.stack(name, &held, 0, &callees).said = stack;
         }
     }
-    list.sheet("sheet: chunk L", &[crate::pieces::chunk_l(&[0, 3, 1])])
+    list.sheet("sheet: chunk L", &[chunk_l(&[0, 3, 1])])
         .is(&[48, 3, 160]);
 }
 
