@@ -14,7 +14,7 @@ mod refusals;
 
 use form::{MOST_CHUNKS, Op};
 use kinds::*;
-use pieces::{chunk, chunk_l, header, op, tail};
+use pieces::{chunk, chunk_l, header, op, ops, tail};
 use pinnaclemug::{Cycles, ROW, Refusal};
 use std::io::Write;
 use std::process::{Command, Stdio, exit};
@@ -91,12 +91,11 @@ fn ifs(at: usize, blocks: usize, inside: Vec<Op>) -> Vec<Op> {
 
 /// An array of five in slot 2, copied so often from slot 2 to slot 2, whose length is the end of a loop within so many Ifs.
 fn copies(number: usize, blocks: usize) -> Vec<Op> {
-    let mut ops = vec![op(NEW_COMPOSITE, ARRAY, 5), op(SET_LOCAL, 0, 2)];
+    let mut ops = ops![NEW_COMPOSITE 5 b ARRAY, SET_LOCAL 2];
     for _ in 0..number {
-        ops.extend([op(GET_LOCAL, 0, 2), op(SET_LOCAL, 0, 2)]);
+        ops.extend(ops![GET_LOCAL 2, SET_LOCAL 2]);
     }
-    ops.extend([op(CONST, 0, 0), op(SET_LOCAL, 0, 0)]);
-    ops.extend([op(GET_LOCAL, 0, 2), op(LEN, 0, 0), op(SET_LOCAL, 0, 1)]);
+    ops.extend(ops![CONST, SET_LOCAL, GET_LOCAL 2, LEN, SET_LOCAL 1]);
     let start = ops.len();
     let mut counted = vec![op(LOOP, 0, start + blocks + 11)];
     counted.extend(header(0, 1));
@@ -115,7 +114,7 @@ fn copies_cycles(number: usize, blocks: usize) -> usize {
 const DEEPEST: (usize, usize) = (7_925, 255);
 
 fn cases() -> Vec<Case> {
-    let mut behind = vec![op(RETURN, 0, 0)];
+    let mut behind = ops![RETURN];
     behind.extend(ifs(1, 8_000, vec![]));
     let deepest = || copies(DEEPEST.0, DEEPEST.1);
     vec![
