@@ -7,7 +7,7 @@ use Rattle.rules.specs.Outcome.{Outcome, answer, refused}
 use Rattle.rules.specs.Cycles.{Cycles}
 use Rattle.rules.specs.Stack.{Stack, Delta, offset, ends}
 
--- how many numbers, chunks and places a refusal is kept whole for
+-- how many numbers, chunks and places a refusal is kept whole for: 2^8, 2^24 and 2^32
 abbrev pub numbers : ℕ
 numbers = 256
 
@@ -17,10 +17,14 @@ chunks = 16777216
 abbrev pub places : ℕ
 places = 4294967296
 
+-- what a refusal's number stands for: 2^56
+abbrev pub numberUnit : ℕ
+numberUnit = chunks * places
+
 -- A refusal: number, chunk and place in 8, 24 and 32 bits. Numbers are 1 to 13, chunks and positions of a module end at 16,384; a chunk or a position that
 -- is handed in is kept modulo 2^24 and 2^32. No answer reaches the bits of the number.
 abbrev pub packedRefusal : ℕ → ℕ → ℕ → ℕ
-packedRefusal n c p = n % numbers * (chunks * places) + c % chunks * places + p % places
+packedRefusal n c p = n % numbers * numberUnit + c % chunks * places + p % places
 
 -- an answer that is a number: the chunks of the reader, a count, how many chunks stand in a tray
 abbrev pub packedNumber : Outcome ℕ → ℕ
