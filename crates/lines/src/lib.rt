@@ -1,2 +1,3 @@
-// One line of the sheet.
+// One line of the sheet, and its row in a list of numbers.
 pub mod line;
+pub mod row;

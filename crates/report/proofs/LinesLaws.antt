@@ -1,25 +1,23 @@
--- The lines of a sheet, printed in order: one line more, and a text written over a list, one line a turn. Assumes nothing.
+-- The lines of a sheet, printed in order: a line by its fields, one line more, and a text written over a list, one line a turn. Assumes nothing.
 use mathlib.Core.Path.{_≡_, refl, sym, ap, _∙_}
-use mathlib.Core.List.{List, [], _∷_, _++_, append-assoc, append-nil}
-use Prim.Native.Nat.{ℕ, zero, suc, _+_, _*_, _<_, _≤_}
+use mathlib.Core.List.{List, [], _∷_, _++_, flatten, append-assoc, append-nil}
+use Prim.Native.Nat.{ℕ, _+_, _*_, _<_, _≤_}
 use native.Mathlib.Numerals.{add-one}
 use native.Mathlib.Omega.{arith}
 use lib.ListN.{length, getD, take, drop}
 use lib.Seq.{take-suc}
-use Rattle.rules.specs.Sheet.{Line, noLine}
-use Rattle.rules.specs.Text.{lineMost, lineText, linesText}
-use Rattle.text.proofs.PasteLaws.{Put, then, pasted-none, pasted-length}
-use Rattle.sheets.specs.Module.{lineAt, lineList}
-use Rattle.sheets.proofs.LineLaws.{next}
+use Rattle.rules.specs.Sheet.{Line, noLine, lineNumbers, lineWidth, trayNumbers}
+use Rattle.rules.specs.Text.{space, newline, lineMost, lineText, linesText}
+use Rattle.text.specs.Field.{fieldText}
+use Rattle.text.specs.Paste.{Put}
+use Rattle.text.proofs.PasteLaws.{then, pasted-none}
+use Rattle.sheets.proofs.TrayLaws.{tray-count, tray-row}
 
--- the line of chunk k
-line-at : (n : ℕ) (cycles peaks bytes : List ℕ) (k : ℕ) → k < n
-    → getD (lineList n cycles peaks bytes) k noLine ≡ lineAt k cycles peaks bytes
-unfolding lineList
-line-at zero cycles peaks bytes k h = absurd (omega arith)
-line-at (suc n) cycles peaks bytes zero h = refl
-line-at (suc n) cycles peaks bytes (suc k) h =
-    rw (← next cycles k, ← next peaks k, ← next bytes k) (line-at n (drop 1 cycles) (drop 1 peaks) (drop 1 bytes) k (omega arith))
+-- the fields of a line: the chunk, and the numbers of its row
+pub row-line : (c : ℕ) (l : Line) {row : List ℕ} → row ≡ lineNumbers l
+    → flatten (fieldText c space ∷ fieldText (getD row 0 0) space ∷ fieldText (getD row 1 0) space ∷ fieldText (getD row 2 0) newline ∷ []) ≡ lineText c l
+unfolding flatten fieldText
+row-line c l is = rw is (simp (append-assoc, append-nil))
 
 text-append : (xs ys : List ℕ) (lines : List Line) → linesText (xs ++ ys) lines ≡ linesText xs lines ++ linesText ys lines
 unfolding linesText
@@ -36,28 +34,35 @@ text-more : (order : List ℕ) (lines : List Line) (j : ℕ) → j < length orde
 text-more order lines j h =
     rw (add-one j, take-suc order j 0 h, text-append (take j order) (getD order j 0 ∷ []) lines, text-one (getD order j 0) lines)
 
-module _ (order cycles peaks bytes : List ℕ) (n at : ℕ) (out : List ℕ) where
-  -- the text of the first j lines
-  abbrev pub textOf : ℕ → List ℕ
-  textOf j = linesText (take j order) (lineList n cycles peaks bytes)
-
-  -- after j turns: the first j lines are written, and they are short
-  abbrev pub Written : ℕ → List ℕ → ℕ → Type 0
-  Written j now end = Put at (textOf j) out now end × (end ≤ at + lineMost * j) × (length now ≡ length out)
+module _ (order numbers : List ℕ) (n at : ℕ) (out : List ℕ) where
+  -- after j turns: the first j lines are written, whatever lines the rows are those of, and they are short
+  pub record Written (j : ℕ) (now : List ℕ) (end : ℕ) : Type 0 where
+    pub upto : j ≤ n
+    pub short : end ≤ at + lineMost * j
+    pub same : length now ≡ length out
+    pub put : (ls : List Line) → take (lineWidth * n) numbers ≡ trayNumbers ls → Put at (linesText (take j order) ls) out now end
 
   pub written-none : Written 0 out at
   unfolding linesText
-  written-none = ((sym (pasted-none at out), omega arith), omega arith, refl)
+  written-none = record { upto = omega arith; short = omega arith; same = refl; put = λ ls is. (sym (pasted-none at out), omega arith) }
 
-  pub written-more : (j : ℕ) → j < length order → getD order j 0 < n → at + lineMost * j + lineMost ≤ length out
-      → {now after : List ℕ} {end r : ℕ} → Written j now end
-      → let k = getD order j 0 in
-      Put end (lineText k (lineAt k cycles peaks bytes)) now after r → r ≤ end + lineMost → Written (j + 1) after r
-  written-more j lt is fits {now} {after} {end} {r} w put short =
-      let k = getD order j 0 in
-      let l = lineList n cycles peaks bytes in
-      let first : at + length (textOf j) ≤ length out = omega (arith, w .0 .1) in
-      let e = text-more order l j lt in
-      let line : Put end (lineText k (getD l k noLine)) now after r = rw (line-at n cycles peaks bytes k is) put in
-      let both = then at (textOf j) (lineText k (getD l k noLine)) out first (w .0) line in
-      (rw e both, omega arith, ap length (both .0) ∙ pasted-length at _ out (omega (arith, both .1)))
+  module _ {j : ℕ} {now : List ℕ} {end : ℕ} (w : Written j now end) (room : at + lineMost * n ≤ length out) (turn : j < n) where
+    pub line-room : end + lineMost ≤ length now
+    line-room = omega (arith, w .short, w .same)
+
+    pub written-more : n ≤ length order → lineWidth * n ≤ length numbers → getD order j 0 < n → {after : List ℕ} {r : ℕ}
+        → ((l : Line) → take lineWidth (drop (lineWidth * getD order j 0) numbers) ≡ lineNumbers l → Put end (lineText (getD order j 0) l) now after r)
+        → r ≤ end + lineMost → length after ≡ length now → Written (j + 1) after r
+    written-more long rows below {after} {r} line short same =
+        let k = getD order j 0 in
+        record {
+          upto = omega arith;
+          short = omega (arith, w .short);
+          same = same ∙ w .same;
+          put = λ ls is.
+              let before = w .put ls is in
+              let fits : at + length (linesText (take j order) ls) ≤ length out = omega (arith, before .1, w .short) in
+              let count = tray-count ls n numbers rows is in
+              let row = tray-row ls numbers (rw (← count) at is) k (omega (arith, count)) in
+              rw (text-more order ls j (omega arith)) (then at (linesText (take j order) ls) _ out fits before (line (getD ls k noLine) row));
+        }

@@ -1,8 +1,12 @@
 // What the program `sheet` prints, from the bytes that it read.
-use sheets::module::WIDTH;
+pub mod line;
+
+use line::HEADING;
+use line::LINE;
+use line::put_heading;
+use line::put_line;
+use lines::row::WIDTH;
 use sheets::module::sheet_of;
-use text::put_heading;
-use text::put_line;
 use text::put_refused;
 use text::to_words;
 use words::limits::CHUNKS;
@@ -11,31 +15,34 @@ use words::reader::Reading;
 use words::reader::read_module;
 use words::refusals;
 ghost use mathlib.Core.Path.{_≡_};
-ghost use Prim.Native.Nat.{_+_, _≤_};
+ghost use mathlib.Core.List.{List};
+ghost use Prim.Native.Nat.{_*_, _≤_};
 ghost use lib.ListN.{length, take};
-ghost use Rattle.rules.specs.Sheet.{sheetOutcome, sheetRoom};
+ghost use Rattle.rules.specs.Sheet.{Line, lineWidth, trayNumbers, sheetOutcome, sheetRoom};
 ghost use Rattle.rules.specs.Text.{linesText, outcomeText, sheetMost, sheetText};
-ghost use Rattle.sheets.specs.Module.{lineList};
-ghost use Rattle.text.specs.Paste.{pasted};
+ghost use Rattle.text.specs.Paste.{pasted, Put};
 ghost use Rattle.report.specs.Report.{LinesFit};
 
-// The bytes of the longest word list.
-pub const BYTES: usize = 4 * WORDS;
+// The bytes of the longest word list, and a buffer that holds one byte more, so that a longer input is seen to be one.
+const BYTES: usize = 4 * WORDS;
 
-// The most bytes of a text: 24 of heading and 256 lines, each a chunk and its numbers of at most 11 bytes.
-pub const OUT: usize = 24 + CHUNKS * 11 * (1 + WIDTH);
+pub const IN: usize = BYTES + 1;
 
-// The text for the bytes that were read, at the front of `out`, and its length.
-pub fn sheet_text(bytes: &[u8], out: &mut [u8; OUT]) -> usize
-    ensures written { λ _. ⌜ now (out .exit) ≡ pasted 0 (sheetText (now (bytes .entry))) (now (out .entry)) ⌝ }
-    ensures next { λ r. ⌜ r ≡ length (sheetText (now (bytes .entry))) ⌝ }
+// The most bytes of a text.
+pub const OUT: usize = HEADING + CHUNKS * LINE;
+
+// The text for the first n bytes of the input, at the front of `out`, and its length.
+pub fn sheet_text(input: &[u8; IN], n: usize, out: &mut [u8; OUT]) -> usize
+    ensures written { λ _. ⌜ now (out .exit) ≡ pasted 0 (sheetText (take n (now (input .entry)))) (now (out .entry)) ⌝ }
+    ensures next { λ r. ⌜ r ≡ length (sheetText (take n (now (input .entry)))) ⌝ }
 {
-    if bytes.len() % 4 != 0 || BYTES < bytes.len() {
+    let all: &[u8] = input;
+    if n % 4 != 0 || BYTES < n {
         return put_refused(out, 0, refusals::BAD_HEAD, 0, 0);
     }
     let mut words = [0u32; WORDS];
-    let n = to_words(bytes, &mut words);
-    words_text(&words[..n], out)
+    let count = to_words(&all[..n], &mut words);
+    words_text(&words[..count], out)
 }
 
 // The text for words: the heading and a line a chunk in call order, or a refusal.
@@ -56,33 +63,23 @@ fn words_text(words: &[u32], out: &mut [u8]) -> usize
         return put_refused(out, 0, sheet.number, sheet.chunk as u64, sheet.place as u64);
     }
     let order = sheet.order;
-    let cycles = sheet.cycles;
-    let peaks = sheet.peaks;
-    let bytes = sheet.bytes;
+    let numbers = sheet.numbers;
     let at = put_heading(out, 0);
-    put_lines(&order, &cycles, &peaks, &bytes, n, out, at)
+    put_lines(&order, &numbers, n, out, at)
 }
 
 // The lines of the first n chunks of the order, from `at` on, and the place behind them.
-fn put_lines(
-    order: &[u8],
-    cycles: &[u32],
-    peaks: &[u32],
-    bytes: &[u32],
-    n: usize,
-    out: &mut [u8],
-    at: usize,
-) -> usize
-    requires { ⌜ LinesFit (now order) (now cycles) (now peaks) (now bytes) n (now out) at ⌝ }
-    ensures written { λ _. ⌜ now (out .exit) ≡ pasted at (linesText (take n (now (order .entry))) (lineList n (now (cycles .entry)) (now (peaks .entry)) (now (bytes .entry)))) (now (out .entry)) ⌝ }
-    ensures next { λ r. ⌜ r ≡ at + length (linesText (take n (now (order .entry))) (lineList n (now (cycles .entry)) (now (peaks .entry)) (now (bytes .entry)))) ⌝ }
+fn put_lines(order: &[u8], numbers: &[u32], n: usize, out: &mut [u8], at: usize) -> usize
+    requires { ⌜ LinesFit (now order) (now numbers) n (now out) at ⌝ }
+    ensures { λ r. ⌜ ((ls : List Line) → take (lineWidth * n) (now (numbers .entry)) ≡ trayNumbers ls → Put at (linesText (take n (now (order .entry))) ls) (now (out .entry)) (now (out .exit)) r) ⌝ }
 {
     let mut end = at;
     let mut j = 0;
     while j < n {
         let c = order[j];
-        let k = c as usize;
-        end = put_line(out, end, c as u32, cycles[k], peaks[k], bytes[k]);
+        let from = WIDTH * c as usize;
+        let to = from + WIDTH;
+        end = put_line(out, end, c as u32, &numbers[from..to]);
         j += 1;
     }
     end

@@ -2,6 +2,7 @@
 use libc::STDERR_FILENO;
 use libc::STDIN_FILENO;
 use libc::STDOUT_FILENO;
+use report::IN;
 use report::OUT;
 use report::sheet_text;
 ghost use lib.ListN.{length};
@@ -32,16 +33,15 @@ fn read_input(buf: &mut [u8]) -> Input
     Input::Bytes(done)
 }
 
-// One byte more than 16,384 words are read, so that a longer input is seen to be one.
 fn main() {
-    let mut bytes = [0u8; 65537];
+    let mut bytes = [0u8; IN];
     let input = read_input(&mut bytes);
     let Input::Bytes(n) = input else {
         io::write_all(STDERR_FILENO, b"sheet: cannot read\n");
         return;
     };
     let mut out = [0u8; OUT];
-    let end = sheet_text(&bytes[..n], &mut out);
+    let end = sheet_text(&bytes, n, &mut out);
     if !io::write_all(STDOUT_FILENO, &out[..end]) {
         io::write_all(STDERR_FILENO, b"sheet: cannot write\n");
     }

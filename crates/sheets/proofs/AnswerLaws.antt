@@ -6,7 +6,7 @@ use mathlib.Core.List.{List, _++_}
 use Prim.Native.Nat.{ℕ, _*_, _<_, _≤_}
 use native.Mathlib.Omega.{arith}
 use borrow.Author.Tests.{le-leb, lt-leb}
-use lib.ListN.{length, drop}
+use lib.ListN.{length, take, drop, length-take}
 use Rattle.rules.specs.Outcome.{ok, Outcome, answer, refused}
 use Rattle.rules.specs.Form.{Chunk}
 use Rattle.rules.specs.Reading.{read}
@@ -16,8 +16,11 @@ use Rattle.words.specs.Parts.{chunksIn}
 use Rattle.words.proofs.LookupLaws.{refused-before}
 use Rattle.order.specs.Search.{Readable}
 use Rattle.sheets.specs.declared.module.Sheet.{Sheet}
-use Rattle.sheets.specs.Module.{lineList, sheetIs, countOf}
-use Rattle.sheets.proofs.LineLaws.{lines-length}
+use Rattle.text.specs.Paste.{pasted}
+use Rattle.text.proofs.PasteLaws.{pasted-first}
+use Rattle.sheets.specs.Module.{Rows, rowsOf, sheetIs, countOf}
+use Rattle.sheets.proofs.TrayLaws.{tray-length}
+use Rattle.sheets.proofs.SheetLaws.{all-lines}
 
 -- the answer and the tray that it leaves
 abbrev pub Leaves : List ℕ → List ℕ → Outcome ℕ → List ℕ → Type 0
@@ -29,6 +32,24 @@ leaves ws tray o e = rw e (refl, refl)
 
 pub unread : (ws tray : List ℕ) (n p : ℕ) → refused n 0 p ≡ readOutcome ws → Leaves ws tray (refused n 0 p) tray
 unread ws tray n p e = leaves ws tray (refused n 0 p) (sym (refused-before ws n p _ e))
+
+-- the sheet of some chunks, kept as its order and its rows
+pub record Kept (cs : List Chunk) (order numbers : List ℕ) : Type 0 where
+  pub sheet : R.Sheet
+  pub answers : sheetOf cs ≡ answer sheet
+  pub in-order : order ≡ sheet .order
+  pub in-rows : numbers ≡ trayNumbers (sheet .lines)
+
+from-refused : (o : Outcome R.Sheet) {m c p : ℕ} → refused m c p ≡ rowsOf o → o ≡ refused m c p
+from-refused (answer t) e = absurd (let z : _≡_ {A = ℕ} 0 1 = cc in omega arith)
+from-refused (refused m c p) e = cc
+
+from-rows : (cs : List Chunk) (o : Outcome R.Sheet) → sheetOf cs ≡ o → {order numbers : List ℕ}
+    → answer (record { order = order; numbers = numbers }) ≡ rowsOf o → Kept cs order numbers
+from-rows cs (answer t) is {order} {numbers} e =
+    let same : _≡_ {A = Rows} (record { order = order; numbers = numbers }) (record { order = t .order; numbers = trayNumbers (t .lines) }) = cc in
+    record { sheet = t; answers = is; in-order = ap (λ (r : Rows). r .order) same; in-rows = ap (λ (r : Rows). r .numbers) same }
+from-rows cs (refused m c p) is e = absurd (let z : _≡_ {A = ℕ} 0 1 = cc in omega arith)
 
 -- words that are a module, and room for its lines or not
 module _ (ws : List ℕ) (cs : List Chunk) (reads : read ws ≡ ok cs) (room : ℕ) where
@@ -42,17 +63,31 @@ module _ {ws : List ℕ} {n : ℕ} (words : Readable ws n) where
   pub short-tray : (tray : List ℕ) → length tray < lineWidth * n → Leaves ws tray (refused 13 0 0) tray
   short-tray tray h = leaves ws tray (refused 13 0 0) (too-short ws (chunksIn ws) (words .reads) (length tray) (omega (arith, words .chunks)))
 
-  module _ (s : Sheet) (made : sheetIs n s ≡ sheetOf (chunksIn ws)) where
-    -- where there is room, the outcome is the sheet that was worked out
-    pub sheet-outcome : (room : ℕ) → lineWidth * n ≤ room → sheetOutcome ws room ≡ sheetIs n s
-    sheet-outcome room fits = fitting ws (chunksIn ws) (words .reads) room (omega (arith, words .chunks)) ∙ sym made
+  -- where there is room, the outcome is the module's sheet
+  pub sheet-outcome : (room : ℕ) → lineWidth * n ≤ room → sheetOutcome ws room ≡ sheetOf (chunksIn ws)
+  sheet-outcome room fits = fitting ws (chunksIn ws) (words .reads) room (omega (arith, words .chunks))
+
+  module _ (s : Sheet) (made : sheetIs n s ≡ rowsOf (sheetOf (chunksIn ws))) where
+    pub sheet-refused : s .refuses ≡ true → sheetOf (chunksIn ws) ≡ refused (s .number) (s .chunk) (s .place)
+    sheet-refused e = from-refused (sheetOf (chunksIn ws)) (rw e at made)
+
+    module _ (is : s .refuses ≡ false) where
+      pub kept : Kept (chunksIn ws) (take n (s .order)) (take (lineWidth * n) (s .numbers))
+      kept = from-rows (chunksIn ws) (sheetOf (chunksIn ws)) refl (rw is at made)
+
+      pub kept-count : length (kept .sheet .lines) ≡ n
+      kept-count = all-lines (chunksIn ws) (kept .sheet) (kept .answers) ∙ sym (words .chunks)
+
+      pub kept-room : lineWidth * n ≤ length (s .numbers)
+      kept-room = omega (arith, length-take (lineWidth * n) (s .numbers), ap length (kept .in-rows), tray-length (kept .sheet .lines), kept-count)
 
     module _ (tray : List ℕ) (fits : lineWidth * n ≤ length tray) where
       pub refused-sheet : s .refuses ≡ true → Leaves ws tray (refused (s .number) (s .chunk) (s .place)) tray
-      refused-sheet e = leaves ws tray _ (rw e at (sheet-outcome (length tray) fits))
+      refused-sheet e = leaves ws tray _ (sheet-outcome (length tray) fits ∙ sheet-refused e)
 
-      pub whole-sheet : s .refuses ≡ false → (after : List ℕ) → after ≡ trayNumbers (lineList n (s .cycles) (s .peaks) (s .bytes)) ++ drop (lineWidth * n) tray
-          → Leaves ws tray (answer n) after
+      pub whole-sheet : s .refuses ≡ false → (after : List ℕ) → after ≡ pasted 0 (take (lineWidth * n) (s .numbers)) tray → Leaves ws tray (answer n) after
       whole-sheet is after e =
-          let size = lines-length n (s .cycles) (s .peaks) (s .bytes) in
-          rw (rw is at (sheet-outcome (length tray) fits)) (ap answer (sym size), e ∙ rw size)
+          let lines = kept is .sheet .lines in
+          let left : after ≡ trayNumbers lines ++ drop (lineWidth * length lines) tray =
+          e ∙ rw (kept is .in-rows, pasted-first (trayNumbers lines) tray, tray-length lines) in
+          rw (sheet-outcome (length tray) fits ∙ kept is .answers) (ap answer (sym (kept-count is)), left)

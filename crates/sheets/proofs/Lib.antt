@@ -1,4 +1,4 @@
-pub mod LineLaws
+pub mod RowLaws
 pub mod TrayLaws
 pub mod TurnLaws
 pub mod SheetLaws

@@ -4,13 +4,13 @@ use mathlib.Core.Path.{_≡_, refl, sym, ap, _∙_}
 use mathlib.Core.List.{List, [], _∷_}
 use Prim.Native.Nat.{ℕ, zero, suc, _<_, _≤_}
 use native.Mathlib.Omega.{arith}
-use lib.ListN.{length, getD, take, replicate}
+use lib.ListN.{length, getD, take, set, replicate, length-set, length-replicate}
 use lib.Seq.{getD-take}
-use Rattle.rules.specs.Outcome.{answer, refused, followedBy}
+use Rattle.rules.specs.Outcome.{answer, refused, followedBy, inChunk}
 use Rattle.rules.specs.Form.{Chunk}
-use Rattle.rules.specs.Order.{Listing, listed, ring, callOrder}
+use Rattle.rules.specs.Order.{Listing, listed, ring, callOrder, chunkAt}
 use Rattle.rules.specs.Sheet as R
-use Rattle.rules.specs.Sheet.{noLine, linesIn, sheetOf, ringOutcome}
+use Rattle.rules.specs.Sheet.{noLine, chunkLine, bytesList, linesIn, sheetOf, ringOutcome}
 use Rattle.rules.proofs.Answers.{from-answer}
 use Rattle.rules.proofs.Members.{In, in-head, in-tail, pigeonhole}
 use Rattle.rules.proofs.CallOrder.{order-sound}
@@ -23,7 +23,7 @@ use Rattle.order.specs.Search.{Readable, Shows, Shown}
 use Rattle.order.proofs.VisitLaws.{few-chunks}
 use Rattle.order.proofs.MarkLaws.{told-listed, told-ring}
 use Rattle.order.proofs.CoverLaws.{covers}
-use Rattle.sheets.specs.Module.{inOrder, Ordering}
+use Rattle.sheets.specs.Module.{inOrder, rowsOf, Ordering}
 use Rattle.sheets.proofs.TurnLaws.{whole}
 
 member-at : (xs : List ℕ) (j : ℕ) → j < length xs → In (getD xs j 0) xs
@@ -39,8 +39,8 @@ module _ {ws : List ℕ} {n : ℕ} (words : Readable ws n) (s : Search) (shown :
       (λ lines. answer (record { order = order; lines = lines })))
   sheet-from l e = rw e
 
-  pub ring-sheet : s .ring < 256 → refused 10 (s .ring) 0 ≡ sheetOf (chunksIn ws)
-  ring-sheet met = sym (sheet-from (ring (s .ring)) (told-ring n s [] (callOrder (chunksIn ws)) met shown .1))
+  pub ring-sheet : s .ring < 256 → refused 10 (s .ring) 0 ≡ rowsOf (sheetOf (chunksIn ws))
+  ring-sheet met = ap rowsOf (sym (sheet-from (ring (s .ring)) (told-ring n s [] (callOrder (chunksIn ws)) met shown .1)))
 
   module _ (none : 256 ≤ s .ring) where
     all : (d : List ℕ) × Shows s n [] d × (callOrder (chunksIn ws) ≡ listed d)
@@ -79,3 +79,18 @@ order-chunks cs s e j lt =
     let b = from-answer (linesIn (a .0) cs (replicate (length cs) noLine)) _ (a .2) in
     let same : s .order ≡ a .0 = cc (b .2) in
     order-sound cs (s .order) (from-listing (callOrder cs) (rw same (a .1))) .only (getD (s .order) j 0) (member-at (s .order) j lt)
+
+-- as many lines as chunks
+same-length : (cs : List Chunk) (order : List ℕ) (lines final : List R.Line) → linesIn order cs lines ≡ answer final → length final ≡ length lines
+unfolding linesIn
+same-length cs [] lines final e = let same : final ≡ lines = cc in rw same
+same-length cs (c ∷ order) lines final e =
+    let a = from-answer (inChunk c (chunkLine (chunkAt cs c) (bytesList lines))) _ e in
+    same-length cs order (set lines c (a .0)) final (a .2) ∙ length-set lines c (a .0)
+
+pub all-lines : (cs : List Chunk) (s : R.Sheet) → sheetOf cs ≡ answer s → length (s .lines) ≡ length cs
+all-lines cs s e =
+    let a = from-answer (ringOutcome (callOrder cs)) _ e in
+    let b = from-answer (linesIn (a .0) cs (replicate (length cs) noLine)) _ (a .2) in
+    let final : b .0 ≡ s .lines = cc (b .2) in
+    same-length cs (a .0) (replicate (length cs) noLine) (s .lines) (b .1 ∙ ap answer final) ∙ length-replicate (length cs) noLine

@@ -1,36 +1,40 @@
--- A tray that is filled from columns, a line a turn. Assumes nothing.
-use mathlib.Core.Path.{_≡_, refl, _∙_}
-use mathlib.Core.List.{List, _++_, append-assoc}
-use Prim.Native.Nat.{ℕ, _+_, _*_, _≤_}
-use native.Mathlib.Numerals.{add-one}
+-- The sheet's rows: those of the lines in the tray, as rows of `lineWidth` numbers. Assumes nothing.
+use mathlib.Core.Path.{_≡_, refl, sym, ap, _∙_}
+use mathlib.Core.List.{List, [], _∷_, _++_, flatMap}
+use Prim.Native.Nat.{ℕ, _+_, _*_, _<_, _≤_}
 use native.Mathlib.Omega.{arith}
-use lib.ListN.{length, drop, length-append, length-drop}
-use lib.Seq.{sets, sets-eq, take-at, drop-drop, drop-append-add}
-use Rattle.rules.specs.Sheet.{lineNumbers, lineWidth, trayNumbers}
-use Rattle.sheets.specs.Module.{lineAt, lineList}
-use Rattle.sheets.proofs.LineLaws.{lines-length, tray-length, tray-more}
+use lib.ListN.{length, getD, take, drop, set, replicate, length-take}
+use Rattle.rules.specs.Sheet.{Line, noLine, lineNumbers, lineWidth, trayNumbers}
+use Rattle.text.specs.Paste.{pasted}
+use Rattle.sheets.proofs.RowLaws as rows
 
--- the tray with the first i lines in front
-abbrev pub filled : List ℕ → List ℕ → List ℕ → ℕ → List ℕ → List ℕ
-filled cycles peaks bytes i tray = trayNumbers (lineList i cycles peaks bytes) ++ drop (lineWidth * i) tray
+line-size : (l : Line) → length (lineNumbers l) ≡ lineWidth
+line-size l = refl
 
-pub filled-none : (cycles peaks bytes tray : List ℕ) → tray ≡ filled cycles peaks bytes 0 tray
-unfolding lineList trayNumbers
-filled-none cycles peaks bytes tray = refl
+tray-rows : (ls : List Line) → trayNumbers ls ≡ flatMap lineNumbers ls
+unfolding trayNumbers flatMap
+tray-rows [] = refl
+tray-rows (l ∷ ls) = ap (λ (ns : List ℕ). lineNumbers l ++ ns) (tray-rows ls)
 
--- a row of numbers behind a front of k
-row-set : (front rest row : List ℕ) (k : ℕ) → length front ≡ k → length row ≤ length rest
-    → sets (front ++ rest) k row ≡ front ++ (row ++ drop (length row) rest)
-row-set front rest row k e h =
-    sets-eq row (front ++ rest) k (omega (arith, length-append front rest))
-    ∙ rw (take-at front rest k e, ← e, drop-append-add front rest (length row), append-assoc)
+pub tray-length : (ls : List Line) → length (trayNumbers ls) ≡ lineWidth * length ls
+tray-length ls = rw (tray-rows ls) (rows.rows-length lineNumbers lineWidth line-size ls)
 
-pub filled-more : (cycles peaks bytes : List ℕ) (i : ℕ) (tray : List ℕ) → lineWidth * (i + 1) ≤ length tray
-    → sets (filled cycles peaks bytes i tray) (lineWidth * i) (lineNumbers (lineAt i cycles peaks bytes)) ≡ filled cycles peaks bytes (i + 1) tray
-filled-more cycles peaks bytes i tray h =
-    let size = tray-length (lineList i cycles peaks bytes) in
-    let front : length (trayNumbers (lineList i cycles peaks bytes)) ≡ lineWidth * i = omega (arith, lines-length i cycles peaks bytes) in
-    let e : lineWidth * (i + 1) ≡ lineWidth * i + lineWidth = omega arith in
-    row-set (trayNumbers (lineList i cycles peaks bytes)) (drop (lineWidth * i) tray) (lineNumbers (lineAt i cycles peaks bytes)) (lineWidth * i) front
-    (omega (arith, length-drop (lineWidth * i) tray))
-    ∙ rw (e, add-one i, tray-more i cycles peaks bytes, append-assoc, drop-drop lineWidth (lineWidth * i) tray)
+pub tray-blank : (n m : ℕ) → lineWidth * n ≤ m → take (lineWidth * n) (replicate m 0) ≡ trayNumbers (replicate n noLine)
+tray-blank n m h =
+    rows.taken-alike 0 (lineWidth * n) m h
+    ∙ sym (tray-rows (replicate n noLine) ∙ rows.rows-alike lineNumbers lineWidth line-size noLine 0 refl n)
+
+-- so many lines as there are rows
+pub tray-count : (ls : List Line) (n : ℕ) (numbers : List ℕ) → lineWidth * n ≤ length numbers → take (lineWidth * n) numbers ≡ trayNumbers ls → length ls ≡ n
+tray-count ls n numbers room is = omega (arith, length-take (lineWidth * n) numbers, ap length is, tray-length ls)
+
+-- a list that begins with the rows of the lines: row c, its k-th number, and another row in its place
+module _ (ls : List Line) (numbers : List ℕ) (begins : take (lineWidth * length ls) numbers ≡ trayNumbers ls) (c : ℕ) (lt : c < length ls) where
+  pub tray-row : take lineWidth (drop (lineWidth * c) numbers) ≡ lineNumbers (getD ls c noLine)
+  tray-row = rows.row-at lineNumbers lineWidth line-size ls numbers (begins ∙ tray-rows ls) c lt noLine
+
+  pub tray-number : (k : ℕ) → k < lineWidth → getD numbers (lineWidth * c + k) 0 ≡ getD (lineNumbers (getD ls c noLine)) k 0
+  tray-number = rows.number-at lineNumbers lineWidth line-size ls numbers (begins ∙ tray-rows ls) c lt noLine
+
+  pub tray-stored : (l : Line) → take (lineWidth * length ls) (pasted (lineWidth * c) (lineNumbers l) numbers) ≡ trayNumbers (set ls c l)
+  tray-stored l = rw tray-rows (rows.row-stored lineNumbers lineWidth line-size ls numbers (begins ∙ tray-rows ls) c lt l)

@@ -1,6 +1,8 @@
 // The module sheet: an entry point for any words and any lent tray.
 use lines::line::LineAnswer;
 use lines::line::chunk_line;
+use lines::row::ROOM;
+use lines::row::put_row;
 use order::entry::call_order;
 use words::heads::Places;
 use words::heads::chunk_places;
@@ -10,28 +12,26 @@ use words::reader::Reading;
 use words::reader::read_module;
 use words::refusals;
 ghost use mathlib.Core.Path.{_≡_};
-ghost use mathlib.Core.List.{_++_};
-ghost use Prim.Native.Nat.{ℕ, _*_, _≤_};
-ghost use lib.ListN.{length, take, drop, replicate};
+ghost use Prim.Native.Nat.{ℕ, _≤_};
+ghost use lib.ListN.{length, take, replicate};
 ghost use Rattle.rules.specs.Outcome.{refused};
-ghost use Rattle.rules.specs.Sheet.{noLine, linesIn, sheetOf, sheetOutcome, lineWidth, trayNumbers, sheetTray};
+ghost use Rattle.rules.specs.Sheet.{noLine, linesIn, sheetOf, sheetOutcome, sheetTray};
 ghost use Rattle.words.specs.Parts.{chunksIn};
 ghost use Rattle.order.specs.Search.{Readable};
-ghost use Rattle.sheets.specs.Module.{lineList, inOrder, sheetIs, answerOutcome, countOf, Ordering};
+ghost use Rattle.text.specs.Paste.{pasted};
+ghost use Rattle.sheets.specs.Module.{inOrder, rowsOf, sheetIs, answerOutcome, countOf, Ordering};
 
-// The numbers of a line in the tray: cycles, peak, bytes.
-pub const WIDTH: usize = 3;
+// The numbers of a line in the tray.
+pub const WIDTH: usize = lines::row::WIDTH;
 
-// A sheet as it is worked out: the call order and the figures of the lines by chunk index, or, where it refuses, the refusal.
+// A sheet as it is worked out: the call order and the numbers of the lines, a row a chunk, or, where it refuses, the refusal.
 pub struct Sheet {
     pub refuses: bool,
     pub number: u32,
     pub chunk: usize,
     pub place: usize,
     pub order: [u8; CHUNKS],
-    pub cycles: [u32; CHUNKS],
-    pub peaks: [u32; CHUNKS],
-    pub bytes: [u32; CHUNKS],
+    pub numbers: [u32; ROOM],
 }
 
 // The number of chunks whose lines stand in the tray, or a refusal.
@@ -60,7 +60,8 @@ pub fn module_sheet(words: &[u32], tray: &mut [u32]) -> SheetAnswer
         }
         Reading::Accepted(chunks) => chunks as usize,
     };
-    if tray.len() < WIDTH * n {
+    let count = WIDTH * n;
+    if tray.len() < count {
         return SheetAnswer::Refused {
             number: refusals::SHORT_TRAY,
             chunk: 0,
@@ -75,17 +76,15 @@ pub fn module_sheet(words: &[u32], tray: &mut [u32]) -> SheetAnswer
             place: sheet.place,
         };
     }
-    let cycles = sheet.cycles;
-    let peaks = sheet.peaks;
-    let bytes = sheet.bytes;
-    fill_tray(&cycles, &peaks, &bytes, n, tray);
+    let numbers = sheet.numbers;
+    fill_tray(&numbers[..count], tray);
     SheetAnswer::Lines(n as u32)
 }
 
 // The sheet of words that are a module of n chunks: the call order, then chunk after chunk in that order.
 pub fn sheet_of(words: &[u32], n: usize) -> Sheet
     requires { ⌜ Readable (now words) n ⌝ }
-    ensures { λ r. ⌜ sheetIs n r ≡ sheetOf (chunksIn (now (words .entry))) ⌝ }
+    ensures { λ r. ⌜ sheetIs n r ≡ rowsOf (sheetOf (chunksIn (now (words .entry)))) ⌝ }
 {
     let places = chunk_places(words, n);
     let ops_at = places.ops;
@@ -98,13 +97,12 @@ pub fn sheet_of(words: &[u32], n: usize) -> Sheet
     sheet_lines(words, places, order, n)
 }
 
-// The lines of the chunks that stand at these places, in call order.
+// The lines of the chunks that stand at these places, in call order. The stack bytes stand in a list of their own too, for the callers' walks.
 fn sheet_lines(words: &[u32], places: Places, order: [u8; CHUNKS], n: usize) -> Sheet
     requires { ⌜ Ordering (now words) places order n ⌝ }
-    ensures { λ r. ⌜ sheetIs n r ≡ inOrder (take n order) (linesIn (take n order) (chunksIn (now (words .entry))) (replicate n noLine)) ⌝ }
+    ensures { λ r. ⌜ sheetIs n r ≡ rowsOf (inOrder (take n order) (linesIn (take n order) (chunksIn (now (words .entry))) (replicate n noLine))) ⌝ }
 {
-    let mut cycles = [0u32; CHUNKS];
-    let mut peaks = [0u32; CHUNKS];
+    let mut numbers = [0u32; ROOM];
     let mut bytes = [0u32; CHUNKS];
     let mut j = 0;
     while j < n {
@@ -120,8 +118,7 @@ fn sheet_lines(words: &[u32], places: Places, order: [u8; CHUNKS], n: usize) -> 
                 return refusal(number, c, place);
             }
         };
-        cycles[c] = line.cycles;
-        peaks[c] = line.peak.0;
+        put_row(&mut numbers, c, line);
         bytes[c] = line.bytes.0;
         j += 1;
     }
@@ -131,9 +128,7 @@ fn sheet_lines(words: &[u32], places: Places, order: [u8; CHUNKS], n: usize) -> 
         chunk: 0,
         place: 0,
         order,
-        cycles,
-        peaks,
-        bytes,
+        numbers,
     }
 }
 
@@ -147,23 +142,18 @@ fn refusal(number: u32, chunk: usize, place: usize) -> Sheet
         chunk,
         place,
         order: [0; CHUNKS],
-        cycles: [0; CHUNKS],
-        peaks: [0; CHUNKS],
-        bytes: [0; CHUNKS],
+        numbers: [0; ROOM],
     }
 }
 
-// The first n lines into the tray, WIDTH numbers each.
-fn fill_tray(cycles: &[u32], peaks: &[u32], bytes: &[u32], n: usize, tray: &mut [u32])
-    requires { ⌜ (n ≤ length (now cycles)) × (n ≤ length (now peaks)) × (n ≤ length (now bytes)) × (lineWidth * n ≤ length (now tray)) ⌝ }
-    ensures { λ r. ⌜ now (tray .exit) ≡ trayNumbers (lineList n (now (cycles .entry)) (now (peaks .entry)) (now (bytes .entry))) ++ drop (lineWidth * n) (now (tray .entry)) ⌝ }
+// The numbers to the front of the tray; what lies beyond is left.
+fn fill_tray(numbers: &[u32], tray: &mut [u32])
+    requires { ⌜ length (now numbers) ≤ length (now tray) ⌝ }
+    ensures { λ _. ⌜ now (tray .exit) ≡ pasted 0 (now (numbers .entry)) (now (tray .entry)) ⌝ }
 {
     let mut i = 0;
-    while i < n {
-        let at = WIDTH * i;
-        tray[at] = cycles[i];
-        tray[at + 1] = peaks[i];
-        tray[at + 2] = bytes[i];
+    while i < numbers.len() {
+        tray[i] = numbers[i];
         i += 1;
     }
 }

@@ -1,4 +1,4 @@
 pub mod PasteLaws
 pub mod WordsLaws
 pub mod DecimalLaws
-pub mod LineLaws
+pub mod FieldLaws

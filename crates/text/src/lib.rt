@@ -1,10 +1,10 @@
-// Bytes to words, and the lines that the program prints.
+// Bytes to words, numbers and words to text, and the line of a refusal.
 ghost use mathlib.Core.Path.{_≡_};
 ghost use mathlib.Core.List.{[], _∷_};
 ghost use Prim.Native.Nat.{_+_, _*_, _≤_, _<_, _/_};
 ghost use lib.ListN.{length};
 ghost use Rattle.rules.specs.Outcome.{refused};
-ghost use Rattle.rules.specs.Text.{decimal, heading, lineMost, lineText, outcomeText};
+ghost use Rattle.rules.specs.Text.{decimal, outcomeText};
 ghost use Rattle.text.specs.Field.{fieldText};
 ghost use Rattle.text.specs.Paste.{pasted};
 ghost use Rattle.text.specs.Words.{wordAt, WordsRead};
@@ -51,7 +51,7 @@ fn put(out: &mut [u8], at: usize, b: u8) -> usize
 }
 
 // Some bytes from place `at` on, and the place behind them.
-fn put_bytes(out: &mut [u8], at: usize, bytes: &[u8]) -> usize
+pub fn put_bytes(out: &mut [u8], at: usize, bytes: &[u8]) -> usize
     requires { ⌜ at + length (now bytes) ≤ length (now out) ⌝ }
     ensures written { λ _. ⌜ now (out .exit) ≡ pasted at (now (bytes .entry)) (now (out .entry)) ⌝ }
     ensures next { λ r. ⌜ r ≡ at + length (now (bytes .entry)) ⌝ }
@@ -78,35 +78,13 @@ fn put_digits(out: &mut [u8], at: usize, n: u64) -> usize
 }
 
 // The decimal digits of n, and the byte that ends the field.
-fn put_field(out: &mut [u8], at: usize, n: u64, end: u8) -> usize
+pub fn put_field(out: &mut [u8], at: usize, n: u64, end: u8) -> usize
     requires { ⌜ at + length (fieldText n end) ≤ length (now out) ⌝ }
     ensures written { λ _. ⌜ now (out .exit) ≡ pasted at (fieldText n end) (now (out .entry)) ⌝ }
     ensures next { λ r. ⌜ r ≡ at + length (fieldText n end) ⌝ }
 {
     let next = put_digits(out, at, n);
     put(out, next, end)
-}
-
-// The heading line.
-pub fn put_heading(out: &mut [u8], at: usize) -> usize
-    requires { ⌜ at + 24 ≤ length (now out) ⌝ }
-    ensures written { λ _. ⌜ now (out .exit) ≡ pasted at heading (now (out .entry)) ⌝ }
-    ensures next { λ r. ⌜ r ≡ at + length heading ⌝ }
-{
-    put_bytes(out, at, b"chunk cycles peak bytes\n")
-}
-
-// A chunk's line.
-pub fn put_line(out: &mut [u8], at: usize, c: u32, cycles: u32, peak: u32, bytes: u32) -> usize
-    requires { ⌜ at + lineMost ≤ length (now out) ⌝ }
-    ensures written { λ _. ⌜ now (out .exit) ≡ pasted at (lineText c (record { cycles = cycles; peak = peak; bytes = bytes })) (now (out .entry)) ⌝ }
-    ensures next { λ r. ⌜ r ≡ at + length (lineText c (record { cycles = cycles; peak = peak; bytes = bytes })) ⌝ }
-    ensures short { λ r. ⌜ r ≤ at + lineMost ⌝ }
-{
-    let first = put_field(out, at, c as u64, b' ');
-    let second = put_field(out, first, cycles as u64, b' ');
-    let third = put_field(out, second, peak as u64, b' ');
-    put_field(out, third, bytes as u64, b'\n')
 }
 
 // The line of a refusal.

@@ -1,28 +1,28 @@
 -- `put_lines` writes a line a turn: after j turns the first j lines stand there. Assumes nothing.
-use Prim.Native.Nat.{_+_, _≤_, _<_, _-_}
+use Prim.Native.Nat.{_<_, _-_}
 use mathlib.Core.Path.{_≡_}
+use native.Mathlib.Nat.{add-sub-cancel-left}
 use native.Mathlib.Omega.{arith}
 use borrow.Author.Needs.{needs}
-use lib.ListN.{length, getD}
-use Rattle.rules.specs.Text.{lineMost}
-use Rattle.report.proofs.LinesLaws.{Written, written-none, written-more}
+use lib.ListN.{getD, length-take, length-drop}
+use Rattle.report.proofs.LinesLaws.{Written, written-none, line-room, written-more}
 use Rattle.report.proofs.put_lines.Statement.{statement}
 use Rattle.report.proofs.put_lines.Tie as tie
 
 abbrev Inv-loop : tie.InvT-loop
-Inv-loop order cycles peaks bytes n out₀ at end₀ j₀ out end j = (j ≤ n) × Written order cycles peaks bytes n at out₀ j out end
+Inv-loop order numbers n out₀ at end₀ j₀ out end j = Written order numbers n at out₀ j out end
 
 abbrev μ-loop : tie.MeasureT-loop
-μ-loop order cycles peaks bytes n out₀ at end₀ j₀ out end j = n - j
+μ-loop order numbers n out₀ at end₀ j₀ out end j = n - j
 
 loop-holds : tie.Need-loop-holds Inv-loop μ-loop
 loop-holds c =
-    let a = c .before .before .before .before .before .args in
-    (omega arith, written-none (a .order .now) (a .cycles .now) (a .peaks .now) (a .bytes .now) (a .n) (a .at) (a .out .now))
+    let a = c .before .before .before .args in
+    written-none (a .order .now) (a .numbers .now) (a .n) (a .at) (a .out .now)
 
 -- where the function starts, from a turn
 abbrev start : tie.In-loop Inv-loop μ-loop → tie.Start Inv-loop μ-loop
-start i = i .before .before .before .before .before .before .before
+start i = i .before .before .before .before .before
 
 -- the chunk of a turn is one of the module
 chosen : (i : tie.In-loop Inv-loop μ-loop) → getD (start i .args .order .now) (i .before .loop .j) 0 < start i .args .n
@@ -31,62 +31,54 @@ chosen i = start i .pre .chunks (i .before .loop .j) (i .loop-test .taken)
 shared-slice-read-c : tie.Need-shared-slice-read-c Inv-loop μ-loop
 shared-slice-read-c c = omega (arith, start (c .before) .pre .order-room, c .before .loop-test .taken)
 
-cast-k : tie.Need-cast-k Inv-loop μ-loop
-cast-k c = omega (arith, chosen (c .before), start (c .before) .pre .order-room)
+-- a chunk's index is a byte
+byte : (c : tie.After-shared-slice-known3 Inv-loop μ-loop) → getD (start (c .before) .args .order .now) (c .before .before .loop .j) 0 < 256
+byte c = omega (arith, c .shared-slice-known3 .given (c .before .before .loop .j))
+
+cast-from : tie.Need-cast-from Inv-loop μ-loop
+cast-from c = omega (arith, byte c)
+
+mul-from : tie.Need-mul-from Inv-loop μ-loop
+mul-from c = omega (arith, byte c)
+
+add-to : tie.Need-add-to Inv-loop μ-loop
+add-to c = omega (arith, byte c)
 
 cast-put-line : tie.Need-cast-put-line Inv-loop μ-loop
-cast-put-line c = omega (arith, c .before .shared-slice-known5 .given (c .before .before .before .loop .j))
+cast-put-line c = omega (arith, byte (c .before))
 
 mul-put-line : tie.Need-mul-put-line Inv-loop μ-loop
-mul-put-line c = omega (arith, chosen (c .before .before), start (c .before .before) .pre .order-room)
+mul-put-line c = omega (arith, byte (c .before))
 
-shared-slice-read-put-line : tie.Need-shared-slice-read-put-line Inv-loop μ-loop
-shared-slice-read-put-line c = omega (arith, chosen (c .before .before .before), start (c .before .before .before) .pre .cycles-room)
-
-mul-put-line-2 : tie.Need-mul-put-line-2 Inv-loop μ-loop
-mul-put-line-2 c = omega (arith, chosen (c .before .before .before), start (c .before .before .before) .pre .order-room)
-
-shared-slice-read-put-line-2 : tie.Need-shared-slice-read-put-line-2 Inv-loop μ-loop
-shared-slice-read-put-line-2 c = omega (arith, chosen (c .before .before .before .before), start (c .before .before .before .before) .pre .peaks-room)
-
-mul-put-line-3 : tie.Need-mul-put-line-3 Inv-loop μ-loop
-mul-put-line-3 c = omega (arith, chosen (c .before .before .before .before), start (c .before .before .before .before) .pre .order-room)
-
-shared-slice-read-put-line-3 : tie.Need-shared-slice-read-put-line-3 Inv-loop μ-loop
-shared-slice-read-put-line-3 c = omega (arith, chosen (c .before .before .before .before .before), start (c .before .before .before .before .before) .pre .bytes-room)
+part-put-line-end : tie.Need-part-put-line-end Inv-loop μ-loop
+part-put-line-end c =
+    let i = c .before .before in
+    omega (arith, chosen i, start i .pre .numbers-room)
 
 put-line-requires : tie.Need-put-line-requires Inv-loop μ-loop
 put-line-requires c κs =
-    let i = c .before .before .before .before .before in
-    let w = i .before .loop .inv .1 in
-    let e : length (i .before .loop .out) ≡ length (start i .args .out .now) = w .2 in
-    let fits : i .before .loop .end + lineMost ≤ length (i .before .loop .out) = omega (arith, w .1, start i .pre .out-room, i .loop-test .taken) in
-    fits
+    let i = c .before .before .before in
+    (line-room _ _ _ _ _ (i .before .loop .inv) (start i .pre .out-room) (i .loop-test .taken), simp (length-take, length-drop) (omega (arith, chosen i, start i .pre .numbers-room)))
 
 loop-again : tie.Need-loop-again Inv-loop μ-loop
 loop-again c =
-    let i = c .before .before .before .before .before .before .before .before in
-    let a = start i .args in
-    let w = i .before .loop .inv .1 in
-    let p = c .before .before .put-line .ensures in (
-      omega arith,
-      written-more (a .order .now) (a .cycles .now) (a .peaks .now) (a .bytes .now) (a .n) (a .at) (a .out .now) (i .before .loop .j)
-          (omega (arith, start i .pre .order-room, i .loop-test .taken)) (chosen i) (omega (arith, start i .pre .out-room, i .loop-test .taken)) w
-          (p .0, p .1 .0) (p .1 .1),
-    )
+    let t = c .before .before in
+    let i = t .before .before .before .before in
+    let f = start i .pre in
+    written-more _ _ _ _ _ (i .before .loop .inv) (f .out-room) (i .loop-test .taken) (f .order-room) (f .numbers-room) (chosen i)
+    (rw add-sub-cancel-left at (t .put-line .ensures .0)) (t .put-line .ensures .1) (t .put-line .kept .0)
 
 same-length : tie.Need-same-length Inv-loop μ-loop
-same-length c = c .before .loop .inv .1 .2
+same-length c = c .before .loop .inv .same
 
 returns : tie.Need-returns Inv-loop μ-loop
 returns c =
     let l = c .before .loop in
-    let e : l .j ≡ c .before .before .before .before .before .before .before .args .n = omega arith in
-    rw e at (l .inv .1 .0)
+    let e : l .j ≡ c .before .before .before .before .before .args .n = omega (arith, l .inv .upto) in
+    rw e at (l .inv .put)
 
 pub put-lines-spec : {M : Type 1} → statement M
 put-lines-spec =
     tie.close
-    (tie.spec Inv-loop μ-loop loop-holds shared-slice-read-c cast-k cast-put-line mul-put-line shared-slice-read-put-line mul-put-line-2
-    shared-slice-read-put-line-2 mul-put-line-3 shared-slice-read-put-line-3 put-line-requires (λ c. search needs) (λ c. search needs) loop-again
-    same-length returns)
+    (tie.spec Inv-loop μ-loop loop-holds shared-slice-read-c cast-from mul-from add-to cast-put-line mul-put-line (λ c. omega arith) (λ c. omega arith)
+    part-put-line-end put-line-requires (λ c. search needs) (λ c. search needs) loop-again same-length returns)

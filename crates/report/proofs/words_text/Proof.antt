@@ -1,5 +1,5 @@
 -- `words_text` prints the outcome of the module sheet: a refusal, or the heading and a line a chunk. Assumes nothing.
-use mathlib.Core.Path.{sym, ap, _∙_}
+use mathlib.Core.Path.{sym}
 use Prim.Native.Nat.{_≤_}
 use native.Mathlib.Omega.{arith}
 use lib.ListN.{length}
@@ -7,7 +7,8 @@ use borrow.Author.Needs.{needs}
 use Rattle.rules.specs.Text.{heading, sheetMost}
 use Rattle.words.proofs.LookupLaws.{accepted}
 use Rattle.order.specs.Search.{Readable}
-use Rattle.text.proofs.PasteLaws.{then, pasted-length}
+use Rattle.sheets.proofs.AnswerLaws.{kept}
+use Rattle.text.proofs.PasteLaws.{then}
 use Rattle.report.proofs.TextLaws.{same-text, unread-text, refused-text, answered-text, lines-fit}
 use Rattle.report.proofs.words_text.Statement.{statement}
 use Rattle.report.proofs.words_text.Tie as tie
@@ -38,50 +39,35 @@ returns-2 c =
 
 -- the function's entry, where the heading is about to be written
 abbrev start : tie.After-put-heading-arg → tie.Start
-start c = c .before .before .before .before .before .before .before .before .before .before .before .before .before
+start c = c .before .before .before .before .before .before .before .before .before .before .before
 
 slice-aggregate-put-lines : tie.Need-slice-aggregate-put-lines
 slice-aggregate-put-lines c = search needs
-
-slice-aggregate-put-lines-2 : tie.Need-slice-aggregate-put-lines-2
-slice-aggregate-put-lines-2 c = search needs
-
-slice-aggregate-put-lines-3 : tie.Need-slice-aggregate-put-lines-3
-slice-aggregate-put-lines-3 c = search needs
-
-slice-aggregate-put-lines-4 : tie.Need-slice-aggregate-put-lines-4
-slice-aggregate-put-lines-4 c = search needs
 
 -- where the heading is written, the buffer is as long as before
 heading-room : (h : tie.After-put-heading) → sheetMost ≤ length (h .put-heading .last .0)
 heading-room h =
     let long : sheetMost ≤ length (start (h .before) .args .out .now) = start (h .before) .pre in
-    let size = ap length (h .put-heading .ensures .0) ∙ pasted-length 0 heading (start (h .before) .args .out .now) (omega arith) in
-    omega (arith, size)
+    omega (arith, h .put-heading .kept .0)
 
 put-lines-requires : tie.Need-put-lines-requires
 put-lines-requires c κs =
-    let h = c .before .before .before .before .before .before .before in
-    let e = h .before .before .before .before .before .before in
+    let h = c .before .before .before .before .before in
+    let e = h .before .before .before .before in
     let f = e .before in
-    let room : sheetMost ≤ length (h .put-heading .last .0) = heading-room h in
     rw (h .put-heading .ensures .1)
-    (lines-fit (accepted-words (f .before)) _ (f .sheet-of .ensures) (e .if1 .left)
-    (omega (arith, slice-aggregate-put-lines (c .before .before .before .before)))
-    (omega (arith, slice-aggregate-put-lines-2 (c .before .before .before)))
-    (omega (arith, slice-aggregate-put-lines-3 (c .before .before)))
-    (omega (arith, slice-aggregate-put-lines-4 (c .before)))
-    _ room)
+    (lines-fit (accepted-words (f .before)) _ (f .sheet-of .ensures) (e .if1 .left) (omega (arith, slice-aggregate-put-lines (c .before .before))) _ (heading-room h))
 
 returns-3 : tie.Need-returns-3
 returns-3 c =
     let p = c .before .before in
-    let h = p .before .before .before .before .before .before .before .before in
-    let e = h .before .before .before .before .before .before in
+    let h = p .before .before .before .before .before .before in
+    let e = h .before .before .before .before in
     let f = e .before in
+    let k = kept (accepted-words (f .before)) _ (f .sheet-of .ensures) (e .if1 .left) in
     let out = start (h .before) .args .out .now in
     let long : sheetMost ≤ length out = start (h .before) .pre in
-    let both = then 0 heading _ out (omega arith) (h .put-heading .ensures) (p .put-lines .ensures) in
+    let both = then 0 heading _ out (omega arith) (h .put-heading .ensures) (p .put-lines .ensures (k .sheet .lines) (k .in-rows)) in
     same-text _ _ _ both (answered-text (accepted-words (f .before)) _ (f .sheet-of .ensures) (e .if1 .left))
 
 pub words-text-spec : {M : Type 1} → statement M
@@ -89,4 +75,4 @@ words-text-spec =
     tie.close
     (tie.spec (λ c κs. search needs) (λ c. search needs) (λ c κs. search needs) (λ c. search needs) returns (λ c. search needs) (λ c. search needs)
     sheet-of-requires (λ c κs. search needs) (λ c. search needs) returns-2 (λ c κs. search needs) slice-aggregate-put-lines
-    slice-aggregate-put-lines-2 slice-aggregate-put-lines-3 slice-aggregate-put-lines-4 put-lines-requires (λ c. search needs) returns-3)
+    (λ c. search needs) put-lines-requires (λ c. search needs) returns-3)

@@ -1,18 +1,10 @@
--- `main` hands on as many bytes as were read, and writes as many as the text has. Assumes nothing.
+-- `main` writes as many bytes as the text has. Assumes nothing.
 use mathlib.Core.Path.{sym}
 use lib.Seq.{length-take-le}
 use borrow.Author.Needs.{needs}
 use Rattle.text.proofs.PasteLaws.{pasted-holds}
 use Rattle.sheet.proofs.main.Statement.{statement}
 use Rattle.sheet.proofs.main.Tie as tie
-
-array-share-prefix-bytes : tie.Need-array-share-prefix-bytes
-array-share-prefix-bytes c =
-    let r = c .before .before .before .before in
-    rw (c .before .input .given .1) at (r .read-input .ensures)
-
-slice-aggregate-sheet-text : tie.Need-slice-aggregate-sheet-text
-slice-aggregate-sheet-text c = sym (length-take-le _ _ (array-share-prefix-bytes (c .before)))
 
 array-share-prefix-out : tie.Need-array-share-prefix-out
 array-share-prefix-out c = pasted-holds _ _ (c .sheet-text .ensures .0) (c .sheet-text .ensures .1)
@@ -24,5 +16,5 @@ pub main-spec : {M : Type 1} → statement M
 main-spec =
     tie.close
     (tie.spec (λ c. search needs) (λ c κs. search needs) (λ c. search needs) (λ c. search needs) (λ c. search needs) (λ c κs. search needs)
-    (λ c. search needs) array-share-prefix-bytes slice-aggregate-sheet-text (λ c κs. search needs) array-share-prefix-out slice-aggregate-write-all-2
-    (λ c κs. search needs) (λ c. search needs) (λ c κs. search needs) (λ c. search needs) (λ c. search needs))
+    (λ c. search needs) (λ c κs. search needs) array-share-prefix-out slice-aggregate-write-all-2 (λ c κs. search needs) (λ c. search needs)
+    (λ c κs. search needs) (λ c. search needs) (λ c. search needs))

@@ -2,7 +2,7 @@
 use native.Mathlib.Omega.{arith}
 use Rattle.text.specs.Field.{fieldText}
 use Rattle.text.proofs.PasteLaws.{then}
-use Rattle.text.proofs.LineLaws.{field-length}
+use Rattle.text.proofs.FieldLaws.{field-length}
 use borrow.Author.Needs.{needs}
 use Rattle.text.proofs.put_field.Statement.{statement}
 use Rattle.text.proofs.put_field.Tie as tie

@@ -3,7 +3,8 @@ use Prim.Native.Nat.{_≤_}
 use native.Mathlib.Omega.{arith}
 use lib.ListN.{length}
 use Rattle.text.specs.Field.{fieldText}
-use Rattle.text.proofs.LineLaws.{short-field, long-field, refused-put}
+use Rattle.text.proofs.PasteLaws.{done, more, all-put}
+use Rattle.text.proofs.FieldLaws.{short-field, long-field, refused-line}
 use borrow.Author.Needs.{needs}
 use Rattle.text.proofs.put_refused.Statement.{statement}
 use Rattle.text.proofs.put_refused.Tie as tie
@@ -30,11 +31,9 @@ returns c =
     let second = third .before .before .before .before in
     let first = second .before .before .before .before in
     let start = first .before .before .before .before in
-    refused-put _ _ _ _ _ (omega (arith, sizes start))
-    (first .put-bytes .ensures)
-    (second .put-field .ensures)
-    (third .put-field2 .ensures)
-    (c .before .before .put-field3 .ensures)
+    let last = c .before .before in
+    let texts = more (first .put-bytes .ensures) (more (second .put-field .ensures) (more (third .put-field2 .ensures) (more (last .put-field3 .ensures) done))) in
+    rw (refused-line (start .args .number) (start .args .chunk) (start .args .place)) at (all-put texts (omega (arith, sizes start)))
 
 pub put-refused-spec : {M : Type 1} → statement M
 put-refused-spec =

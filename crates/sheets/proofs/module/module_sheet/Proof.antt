@@ -2,10 +2,10 @@
 -- Assumes nothing.
 use mathlib.Core.Path.{sym}
 use native.Mathlib.Omega.{arith}
+use lib.Seq.{length-take-le}
 use Rattle.words.proofs.LookupLaws.{accepted}
 use Rattle.order.specs.Search.{Readable}
-use Rattle.order.proofs.VisitLaws.{few-chunks}
-use Rattle.sheets.proofs.AnswerLaws.{unread, short-tray, refused-sheet, whole-sheet}
+use Rattle.sheets.proofs.AnswerLaws.{unread, short-tray, kept-room, refused-sheet, whole-sheet}
 use borrow.Author.Needs.{needs}
 use Rattle.sheets.proofs.module.module_sheet.Statement.{statement}
 use Rattle.sheets.proofs.module.module_sheet.Tie as tie
@@ -35,33 +35,24 @@ returns-3 c =
     let e = f .before in
     refused-sheet (accepted-words (e .before)) _ (f .sheet-of .ensures) _ (e .if1 .left) (c .if2 .taken)
 
+array-share-prefix-numbers : tie.Need-array-share-prefix-numbers
+array-share-prefix-numbers c =
+    let y = c .before in
+    let f = y .before in
+    kept-room (accepted-words (f .before .before)) _ (f .sheet-of .ensures) (y .if2 .left)
+
 slice-aggregate-fill-tray : tie.Need-slice-aggregate-fill-tray
-slice-aggregate-fill-tray c = search needs
-
-slice-aggregate-fill-tray-2 : tie.Need-slice-aggregate-fill-tray-2
-slice-aggregate-fill-tray-2 c = search needs
-
-slice-aggregate-fill-tray-3 : tie.Need-slice-aggregate-fill-tray-3
-slice-aggregate-fill-tray-3 c = search needs
-
--- the sheet does not refuse
-abbrev answered : tie.After-fill-tray-arg → tie.Else2
-answered c = c .before .before .before .before .before .before .before
+slice-aggregate-fill-tray c = sym (length-take-le _ _ (array-share-prefix-numbers (c .before)))
 
 fill-tray-requires : tie.Need-fill-tray-requires
 fill-tray-requires c κs =
-    let e = answered c .before .before in
-    let few = few-chunks (accepted-words (e .before)) in (
-      omega (arith, few, slice-aggregate-fill-tray (c .before .before .before)),
-      omega (arith, few, slice-aggregate-fill-tray-2 (c .before .before)),
-      omega (arith, few, slice-aggregate-fill-tray-3 (c .before)),
-      e .if1 .left,
-    )
+    let e = c .before .before .before .before .before in
+    omega (arith, e .if1 .left, slice-aggregate-fill-tray (c .before))
 
 returns-4 : tie.Need-returns-4
 returns-4 c =
     let t = c .before .before in
-    let y = answered (t .before) in
+    let y = t .before .before .before .before in
     let f = y .before in
     let e = f .before in
     whole-sheet (accepted-words (e .before)) _ (f .sheet-of .ensures) _ (e .if1 .left) (y .if2 .left) _ (t .fill-tray .ensures)
@@ -70,5 +61,5 @@ pub module-sheet-spec : {M : Type 1} → statement M
 module-sheet-spec =
     tie.close
     (tie.spec (λ c κs. search needs) (λ c. search needs) returns (λ c. search needs) (λ c. search needs) (λ c. search needs) returns-2
-    sheet-of-requires returns-3 slice-aggregate-fill-tray slice-aggregate-fill-tray-2 slice-aggregate-fill-tray-3 fill-tray-requires
+    sheet-of-requires returns-3 array-share-prefix-numbers slice-aggregate-fill-tray fill-tray-requires
     (λ c. search needs) (λ c. search needs) returns-4)

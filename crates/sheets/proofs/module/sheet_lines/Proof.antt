@@ -1,31 +1,33 @@
 -- `sheet_lines` works out the lines of the chunks in call order: the turns from j on give the whole.
 -- Assumes nothing.
-use mathlib.Core.Path.{_≡_, refl, sym, ap, _∙_}
+use mathlib.Core.Path.{_≡_, sym, ap, _∙_}
+use mathlib.Core.List.{List}
 use Prim.Native.Nat.{_-_, _≤_, _<_}
 use borrow.Author.Needs.{needs}
 use lib.ListN.{getD, take}
 use lib.Seq.{length-take-le}
+use Rattle.rules.specs.Outcome.{Outcome}
 use Rattle.rules.specs.Order.{chunkAt}
-use Rattle.rules.specs.Sheet.{chunkLine}
+use Rattle.rules.specs.Sheet.{Line, chunkLine}
 use Rattle.words.specs.Parts.{chunksIn}
 use Rattle.order.proofs.VisitLaws.{few-chunks}
 use Rattle.lines.specs.Line.{lineResult}
 use native.Mathlib.Omega.{arith}
-use Rattle.sheets.specs.Module.{inOrder}
-use Rattle.sheets.proofs.TurnLaws.{Lined, lined-begins, lined-ends, lined-more, lined-refuses, turn-head, turn-parts, turn-fits}
+use Rattle.sheets.specs.Module.{inOrder, rowsOf}
+use Rattle.sheets.proofs.TurnLaws.{Lined, lined-begins, lined-ends, lined-more, lined-refuses, row-room, turn-head, turn-parts, turn-fits}
 use Rattle.sheets.proofs.module.sheet_lines.Statement.{statement}
 use Rattle.sheets.proofs.module.sheet_lines.Tie as tie
 
 abbrev Inv-loop : tie.InvT-loop
-Inv-loop words n places order cycles₀ peaks₀ bytes₀ j₀ cycles peaks bytes j = Lined words order n j cycles peaks bytes
+Inv-loop words n places order numbers₀ bytes₀ j₀ numbers bytes j = Lined words order n j numbers bytes
 
 abbrev μ-loop : tie.MeasureT-loop
-μ-loop words n places order cycles₀ peaks₀ bytes₀ j₀ cycles peaks bytes j = n - j
+μ-loop words n places order numbers₀ bytes₀ j₀ numbers bytes j = n - j
 
 loop-holds : tie.Need-loop-holds Inv-loop μ-loop
 loop-holds c =
     let s = c .before in
-    lined-begins (s .args .words .now) (s .args .t3) (s .args .n) (few-chunks (s .pre .words)) _ refl refl
+    lined-begins (s .args .words .now) (s .args .t3) (s .args .n) (few-chunks (s .pre .words))
 
 -- the function's entry, and the chunk whose turn it is
 abbrev entry : tie.In-loop Inv-loop μ-loop → tie.Start Inv-loop μ-loop
@@ -107,50 +109,39 @@ returns c =
     let l = k .before .before in
     let i = inside l in
     c .refusal .ensures (entry i .args .n)
-    ∙ ap (inOrder (take (entry i .args .n) (entry i .args .t3)))
-    (lined-refuses (i .before .loop .inv) (few i) (entry i .pre .order-room) (i .loop-test .taken) _ _ (sym (ap lineResult (k .answer2 .given .1)) ∙ told l))
+    ∙ ap (λ (o : Outcome (List Line)). rowsOf (inOrder (take (entry i .args .n) (entry i .args .t3)) o))
+    (lined-refuses (i .before .loop .inv) (i .loop-test .taken) (entry i .pre .order-room) _ _ (sym (ap lineResult (k .answer2 .given .1)) ∙ told l))
 
-mul-cycles : tie.Need-mul-cycles Inv-loop μ-loop
-mul-cycles c =
-    let i = inside (c .before .before .before) in
-    omega (arith, few i, below i)
+-- the turn in which the row is written
+abbrev storing : tie.After-numbers Inv-loop μ-loop → tie.In-loop Inv-loop μ-loop
+storing c = inside (c .before .before .before .before)
 
-array-write-cycles : tie.Need-array-write-cycles Inv-loop μ-loop
-array-write-cycles c =
-    let i = inside (c .before .before .before) in
-    omega (arith, few i, below i)
+slice-aggregate-put-row : tie.Need-slice-aggregate-put-row Inv-loop μ-loop
+slice-aggregate-put-row c = sym (storing c .before .loop .inv .numbers-size)
 
-mul-peaks : tie.Need-mul-peaks Inv-loop μ-loop
-mul-peaks c =
-    let i = inside (c .before .before .before) in
-    omega (arith, few i, below i)
-
-array-write-peaks : tie.Need-array-write-peaks Inv-loop μ-loop
-array-write-peaks c =
-    let i = inside (c .before .before .before) in
-    omega (arith, few i, below i)
+put-row-requires : tie.Need-put-row-requires Inv-loop μ-loop
+put-row-requires c κs =
+    let i = storing c in
+    row-room (i .before .loop .inv) (i .loop-test .taken) (below i) (few i)
 
 mul-bytes : tie.Need-mul-bytes Inv-loop μ-loop
-mul-bytes c =
-    let i = inside (c .before .before .before) in
-    omega (arith, few i, below i)
+mul-bytes c = omega (arith, under (storing (c .before .before)))
 
 array-write-bytes : tie.Need-array-write-bytes Inv-loop μ-loop
-array-write-bytes c =
-    let i = inside (c .before .before .before) in
-    omega (arith, few i, below i)
+array-write-bytes c = omega (arith, under (storing (c .before .before)))
 
 loop-again : tie.Need-loop-again Inv-loop μ-loop
 loop-again c =
-    let k = c .before in
+    let k = c .before .before .before .before in
     let l = k .before .before in
     let i = inside l in
-    lined-more (i .before .loop .inv) (few i) (entry i .pre .order-room) (i .loop-test .taken) (below i) _ (sym (ap lineResult (k .answer .given .1)) ∙ told l)
+    lined-more (i .before .loop .inv) (i .loop-test .taken) (few i) (entry i .pre .order-room) (below i) _ (sym (ap lineResult (k .answer .given .1)) ∙ told l)
+    (c .before .put-row .ensures)
 
 returns-2 : tie.Need-returns-2 Inv-loop μ-loop
 returns-2 c =
     let s = c .before .before .before in
-    ap (inOrder (take (s .args .n) (s .args .t3))) (lined-ends (c .before .loop .inv) (c .loop-test .left))
+    lined-ends (c .before .loop .inv) (c .loop-test .left)
 
 pub sheet-lines-spec : {M : Type 1} → statement M
 sheet-lines-spec =
@@ -158,5 +149,5 @@ sheet-lines-spec =
     (tie.spec Inv-loop μ-loop loop-holds array-read-c cast-c mul-at element-copy-out-at (λ c. search needs) mul-ops element-copy-out-ops
     (λ c. search needs) mul-extras element-copy-out-extras (λ c. search needs) mul-parts-from element-copy-out-parts-from (λ c. search needs)
     parts-from-requires array-share-prefix-bytes slice-aggregate-chunk-line chunk-line-requires (λ c. search needs) (λ c. search needs)
-    (λ c κs. search needs) returns mul-cycles array-write-cycles mul-peaks array-write-peaks mul-bytes array-write-bytes (λ c. search needs)
+    (λ c κs. search needs) returns slice-aggregate-put-row put-row-requires mul-bytes array-write-bytes (λ c. search needs)
     (λ c. search needs) loop-again returns-2)

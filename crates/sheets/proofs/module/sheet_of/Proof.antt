@@ -1,9 +1,10 @@
 -- `sheet_of` refuses a ring, and else gives the lines of all chunks in call order.
 -- Assumes nothing.
-use mathlib.Core.Path.{_∙_}
+use mathlib.Core.Path.{ap, _∙_}
 use native.Mathlib.Omega.{arith}
 use Rattle.order.specs.Search.{Readable}
 use Rattle.order.proofs.VisitLaws.{few-chunks}
+use Rattle.sheets.specs.Module.{rowsOf}
 use Rattle.sheets.proofs.SheetLaws.{ring-sheet, lines-sheet, ordering}
 use borrow.Author.Needs.{needs}
 use Rattle.sheets.proofs.module.sheet_of.Statement.{statement}
@@ -50,7 +51,7 @@ returns-2 : tie.Need-returns-2
 returns-2 c =
     let e = c .before .before in
     let o = e .before .before in
-    c .sheet-lines .ensures ∙ lines-sheet (words (placed (o .before))) _ (o .call-order .ensures) (e .if1 .left)
+    c .sheet-lines .ensures ∙ ap rowsOf (lines-sheet (words (placed (o .before))) _ (o .call-order .ensures) (e .if1 .left))
 
 pub sheet-of-spec : {M : Type 1} → statement M
 sheet-of-spec =
