@@ -23,10 +23,11 @@ ghost use Rattle.rules.specs.Text.{linesText, outcomeText, sheetMost, sheetText
 ghost use Rattle.text.specs.Paste.{pasted, Put};
 ghost use Rattle.report.specs.Report.{LinesFit};
 
-// The bytes of the longest word list, and a buffer that holds one byte more, so that a longer input is seen to be one.
-const BYTES: usize = 4 * WORDS;
+// The bytes of the longest word list.
+const LONGEST: usize = 4 * WORDS;
 
-pub const IN: usize = BYTES + 1;
+// A buffer for the input holds one byte more, so that a longer input is seen to be one.
+pub const IN: usize = LONGEST + 1;
 
 // The most bytes of a text.
 pub const OUT: usize = HEADING + CHUNKS * LINE;
@@ -37,7 +38,7 @@ pub fn sheet_text(input: &[u8; IN], n: usize, out: &mut [u8; OUT]) -> usize
     ensures next { λ r. ⌜ r ≡ length (sheetText (take n (now (input .entry)))) ⌝ }
 {
     let all: &[u8] = input;
-    if n % 4 != 0 || BYTES < n {
+    if n % 4 != 0 || LONGEST < n {
         return put_refused(out, 0, refusals::BAD_HEAD, 0, 0);
     }
     let mut words = [0u32; WORDS];
@@ -77,7 +78,8 @@ fn put_lines(order: &[u8], numbers: &[u32], n: usize, out: &mut [u8], at: usize)
     let mut j = 0;
     while j < n {
         let c = order[j];
-        let from = WIDTH * c as usize;
+        let k = c as usize;
+        let from = WIDTH * k;
         let to = from + WIDTH;
         end = put_line(out, end, c as u32, &numbers[from..to]);
         j += 1;

@@ -83,9 +83,6 @@ module _ {ws order : List ℕ} {n j : ℕ} {numbers bytes : List ℕ} (l : Lined
         ∙ ap (λ (os : List ℕ). linesIn os (chunksIn ws) (l .lines)) first
         ∙ ap (λ (bs : List ℕ). rest (chunkLine (chunkAt (chunksIn ws) (getD order j 0)) bs)) (sym (l .column))
 
-    pub row-room : getD order j 0 < n → n ≤ mostChunks → lineWidth * getD order j 0 + lineWidth ≤ length numbers
-    row-room below few = omega (arith, l .numbers-size)
-
     pub lined-more : n ≤ mostChunks → n ≤ length order → getD order j 0 < n → (x : R.Line)
         → ok x ≡ chunkLine (chunkAt (chunksIn ws) (getD order j 0)) (take n bytes)
         → {after : List ℕ} → after ≡ pasted (lineWidth * getD order j 0) (lineNumbers x) numbers
@@ -94,7 +91,7 @@ module _ {ws order : List ℕ} {n j : ℕ} {numbers bytes : List ℕ} (l : Lined
         let c = getD order j 0 in
         record {
           upto = omega arith;
-          numbers-size = ap length stored ∙ pasted-length (lineWidth * c) (lineNumbers x) numbers (row-room below few) ∙ l .numbers-size;
+          numbers-size = ap length stored ∙ pasted-length (lineWidth * c) (lineNumbers x) numbers (omega (arith, l .numbers-size)) ∙ l .numbers-size;
           bytes-size = length-set bytes c (x .bytes) ∙ l .bytes-size;
           lines = set (l .lines) c x;
           count = length-set (l .lines) c x ∙ l .count;

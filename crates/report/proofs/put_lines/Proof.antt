@@ -1,10 +1,10 @@
 -- `put_lines` writes a line a turn: after j turns the first j lines stand there. Assumes nothing.
-use Prim.Native.Nat.{_<_, _-_}
+use Prim.Native.Nat.{_+_, _*_, _≤_, _<_, _-_}
 use mathlib.Core.Path.{_≡_}
 use native.Mathlib.Nat.{add-sub-cancel-left}
 use native.Mathlib.Omega.{arith}
 use borrow.Author.Needs.{needs}
-use lib.ListN.{getD, length-take, length-drop}
+use lib.ListN.{length, getD, length-take, length-drop}
 use Rattle.report.proofs.LinesLaws.{Written, written-none, line-room, written-more}
 use Rattle.report.proofs.put_lines.Statement.{statement}
 use Rattle.report.proofs.put_lines.Tie as tie
@@ -31,34 +31,33 @@ chosen i = start i .pre .chunks (i .before .loop .j) (i .loop-test .taken)
 shared-slice-read-c : tie.Need-shared-slice-read-c Inv-loop μ-loop
 shared-slice-read-c c = omega (arith, start (c .before) .pre .order-room, c .before .loop-test .taken)
 
--- a chunk's index is a byte
-byte : (c : tie.After-shared-slice-known3 Inv-loop μ-loop) → getD (start (c .before) .args .order .now) (c .before .before .loop .j) 0 < 256
-byte c = omega (arith, c .shared-slice-known3 .given (c .before .before .loop .j))
+cast-k : tie.Need-cast-k Inv-loop μ-loop
+cast-k c = omega (arith, c .shared-slice-known3 .given (c .before .before .loop .j))
 
-cast-from : tie.Need-cast-from Inv-loop μ-loop
-cast-from c = omega (arith, byte c)
+-- the rows of the chunk and of the turn are there
+room : (i : tie.In-loop Inv-loop μ-loop) → let a = start i .args in
+    (3 * getD (a .order .now) (i .before .loop .j) 0 + 3 ≤ length (a .numbers .now)) × (3 * i .before .loop .j + 3 ≤ length (a .numbers .now))
+room i = (omega (arith, chosen i, start i .pre .numbers-room), omega (arith, i .loop-test .taken, start i .pre .numbers-room))
 
 mul-from : tie.Need-mul-from Inv-loop μ-loop
-mul-from c = omega (arith, byte c)
+mul-from c = omega (arith, room (c .before))
 
 add-to : tie.Need-add-to Inv-loop μ-loop
-add-to c = omega (arith, byte c)
+add-to c = omega (arith, room (c .before))
 
 cast-put-line : tie.Need-cast-put-line Inv-loop μ-loop
-cast-put-line c = omega (arith, byte (c .before))
+cast-put-line c = omega (arith, c .before .shared-slice-known3 .given (c .before .before .before .loop .j))
 
 mul-put-line : tie.Need-mul-put-line Inv-loop μ-loop
-mul-put-line c = omega (arith, byte (c .before))
+mul-put-line c = omega (arith, room (c .before .before))
 
 part-put-line-end : tie.Need-part-put-line-end Inv-loop μ-loop
-part-put-line-end c =
-    let i = c .before .before in
-    omega (arith, chosen i, start i .pre .numbers-room)
+part-put-line-end c = omega (arith, room (c .before .before))
 
 put-line-requires : tie.Need-put-line-requires Inv-loop μ-loop
 put-line-requires c κs =
     let i = c .before .before .before in
-    (line-room _ _ _ _ _ (i .before .loop .inv) (start i .pre .out-room) (i .loop-test .taken), simp (length-take, length-drop) (omega (arith, chosen i, start i .pre .numbers-room)))
+    (line-room _ _ _ _ _ (i .before .loop .inv) (start i .pre .out-room) (i .loop-test .taken), simp (length-take, length-drop) (omega (arith, room i)))
 
 loop-again : tie.Need-loop-again Inv-loop μ-loop
 loop-again c =
@@ -80,5 +79,5 @@ returns c =
 pub put-lines-spec : {M : Type 1} → statement M
 put-lines-spec =
     tie.close
-    (tie.spec Inv-loop μ-loop loop-holds shared-slice-read-c cast-from mul-from add-to cast-put-line mul-put-line (λ c. omega arith) (λ c. omega arith)
+    (tie.spec Inv-loop μ-loop loop-holds shared-slice-read-c cast-k mul-from add-to cast-put-line mul-put-line (λ c. omega arith) (λ c. omega arith)
     part-put-line-end put-line-requires (λ c. search needs) (λ c. search needs) loop-again same-length returns)

@@ -14,7 +14,7 @@ use Rattle.order.proofs.VisitLaws.{few-chunks}
 use Rattle.lines.specs.Line.{lineResult}
 use native.Mathlib.Omega.{arith}
 use Rattle.sheets.specs.Module.{inOrder, rowsOf}
-use Rattle.sheets.proofs.TurnLaws.{Lined, lined-begins, lined-ends, lined-more, lined-refuses, row-room, turn-head, turn-parts, turn-fits}
+use Rattle.sheets.proofs.TurnLaws.{Lined, lined-begins, lined-ends, lined-more, lined-refuses, turn-head, turn-parts, turn-fits}
 use Rattle.sheets.proofs.module.sheet_lines.Statement.{statement}
 use Rattle.sheets.proofs.module.sheet_lines.Tie as tie
 
@@ -122,7 +122,7 @@ slice-aggregate-put-row c = sym (storing c .before .loop .inv .numbers-size)
 put-row-requires : tie.Need-put-row-requires Inv-loop μ-loop
 put-row-requires c κs =
     let i = storing c in
-    row-room (i .before .loop .inv) (i .loop-test .taken) (below i) (few i)
+    omega (arith, few i, below i, i .loop-test .taken, i .before .loop .inv .numbers-size)
 
 mul-bytes : tie.Need-mul-bytes Inv-loop μ-loop
 mul-bytes c = omega (arith, under (storing (c .before .before)))
