@@ -7,7 +7,7 @@ use words::values::ConstValue;
 use words::values::constant_at;
 ghost use mathlib.Core.Path.{_≡_};
 ghost use mathlib.Core.Bool.{_&&_};
-ghost use Prim.Native.Nat.{_≤_};
+ghost use Prim.Native.Nat.{ℕ, _≤_};
 ghost use lib.Dec.{eqb};
 ghost use lib.ListN.{length, getD};
 ghost use Rattle.rules.specs.Form.{other};
@@ -44,6 +44,23 @@ pub fn is_of(w: u32, k: u32, a: u32) -> bool
     (w / fields::KIND_UNIT == k) & (w % fields::B_UNIT == a)
 }
 
+// Behind the last SetLocal below `before`, or 0 where there is none. Most ops are none: to pass them over asks for their kind alone.
+fn behind_set(ops: &[u32], before: usize) -> usize
+    requires { ⌜ before ≤ length (now ops) ⌝ }
+    ensures within { λ r. ⌜ r ≤ before ⌝ }
+    ensures same { λ r. ⌜ ((s : ℕ) → lastSet (now (ops .entry)) before s ≡ lastSet (now (ops .entry)) r s) ⌝ }
+{
+    let mut i = before;
+    while 0 < i {
+        let last = i - 1;
+        if ops[last] / fields::KIND_UNIT == kinds::SET_LOCAL {
+            return i;
+        }
+        i = last;
+    }
+    i
+}
+
 // The last position below `before` whose op sets the slot.
 pub fn last_set(ops: &[u32], before: usize, slot: u32) -> Found
     requires { ⌜ before ≤ length (now ops) ⌝ }
@@ -51,6 +68,7 @@ pub fn last_set(ops: &[u32], before: usize, slot: u32) -> Found
 {
     let mut i = before;
     loop {
+        i = behind_set(ops, i);
         if i == 0 {
             break Found::Nothing;
         }
