@@ -15,7 +15,7 @@ use Rattle.rules.specs.Ops.{kind, fieldA, fieldB, opAt}
 use Rattle.rules.specs.Form.{Constant, other}
 use Rattle.rules.specs.Count.{isGetLocal, isSetLocal, isPositive, neverSets, hasIncrement, hasTail}
 use Rattle.rules.proofs.Flags.{both}
-use Rattle.words.proofs.OpLaws.{read-op}
+use Rattle.count.proofs.NeverLaws.{neither, never-last}
 
 -- past the end there is no EndLoop
 pub end-within : (ops : List ℕ) (n : ℕ) {b : Bool} → b ≡ eqb (kind (opAt ops n)) K.EndLoop → not b ≡ false → n < length ops
@@ -24,47 +24,6 @@ end-within ops n {b} e h = go (leb (length ops) n) refl (eqb-true (kind (opAt op
     go : (l : Bool) → leb (length ops) n ≡ l → kind (opAt ops n) ≡ K.EndLoop → n < length ops
     go true l k = absurd (omega (arith, List·getD-eq-default ops noOp (leb-true (length ops) n l)))
     go false l k = leb-false (length ops) n l
-
--- neither of two slots is set by the n ops from a position on
-abbrev pub neither : List ℕ → ℕ → ℕ → ℕ → ℕ → Bool
-neither ops v e n i = neverSets ops v n i && neverSets ops e n i
-
--- two tests of an op and of the rest, regrouped
-regroup : (a b c d : Bool) → ((not a && c) && (not b && d)) ≡ (not (a || b) && (c && d))
-regroup true b c d = refl
-regroup false true c d = and-false c
-regroup false false c d = refl
-
--- the ops from a position up to an end
-module _ (ops : List ℕ) (v e end at : ℕ) where
-  pub never-none : end ≤ at → neither ops v e (end - at) at ≡ true
-  unfolding neverSets
-  never-none h = let z : end - at ≡ 0 = omega arith in rw z
-
-  pub never-next : at < end → end ≤ length ops → neither ops v e (end - at) at
-      ≡ (not (isSetLocal v (getD ops at 0) || isSetLocal e (getD ops at 0)) && neither ops v e (end - (at + 1)) (at + 1))
-  unfolding neverSets
-  never-next h b =
-      let z : end - at ≡ suc (end - (at + 1)) = omega arith in
-      let w = getD ops at 0 in
-      let n = end - suc at in
-      rw (z, add-one at, read-op ops at (omega arith)) (regroup (isSetLocal v w) (isSetLocal e w) (neverSets ops v n (suc at)) (neverSets ops e n (suc at)))
-
--- an op that is no SetLocal changes nothing
-pub never-other : (ops : List ℕ) (s end at : ℕ) → at < end → end ≤ length ops → (kind (getD ops at 0) ≡ K.SetLocal → ⊥)
-    → neverSets ops s (end - at) at ≡ neverSets ops s (end - (at + 1)) (at + 1)
-unfolding neverSets
-never-other ops s end at h b n =
-    let z : end - at ≡ suc (end - (at + 1)) = omega arith in
-    rw (z, add-one at, read-op ops at (omega arith), ne-eqb (kind (getD ops at 0)) K.SetLocal n)
-
--- one op more at the end
-never-last : (ops : List ℕ) (s m i : ℕ) → neverSets ops s (suc m) i ≡ (neverSets ops s m i && not (isSetLocal s (opAt ops (i + m))))
-unfolding neverSets
-never-last ops s zero i = let z : i + 0 ≡ i = omega arith in rw z (and-true (not (isSetLocal s (opAt ops i))))
-never-last ops s (suc m) i =
-    let z : i + suc m ≡ suc i + m = omega arith in
-    rw (never-last ops s m (suc i), z) (sym (and-assoc (not (isSetLocal s (opAt ops i))) (neverSets ops s m (suc i)) (not (isSetLocal s (opAt ops (suc i + m))))))
 
 -- a word that sets v sets e only if they are one
 sets-one : (w v e : ℕ) → isSetLocal v w ≡ true → isSetLocal e w ≡ eqb v e

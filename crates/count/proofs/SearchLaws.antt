@@ -39,10 +39,6 @@ module _ (ops : List ℕ) (s : ℕ) where
     pub last-skip : isSetLocal s (getD ops (i - 1) 0) ≡ false → lastSet ops i s ≡ lastSet ops (i - 1) s
     last-skip e = rw (step i h b, e)
 
-    -- an op that is no SetLocal is passed over, whatever the slot
-    pub last-other : (kind (getD ops (i - 1) 0) ≡ K.SetLocal → ⊥) → lastSet ops i s ≡ lastSet ops (i - 1) s
-    last-other n = last-skip (rw (ne-eqb (kind (getD ops (i - 1) 0)) K.SetLocal n))
-
   pub last-none : (i : ℕ) → i ≡ 0 → lastSet ops i s ≡ nothing
   unfolding lastSet
   last-none i e = rw e

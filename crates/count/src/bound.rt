@@ -2,6 +2,7 @@
 use crate::search::Value;
 use crate::search::is_kind;
 use crate::search::is_of;
+use crate::search::never_sets;
 use crate::search::op_at;
 use crate::search::trace_const_set_local;
 use words::fields;
@@ -38,39 +39,6 @@ pub fn has_header(ops: &[u32], p: usize) -> bool
         & is_kind(ops, p + 2, kinds::GET_LOCAL)
         & is_kind(ops, p + 3, kinds::CMP_GE)
         & is_kind(ops, p + 4, kinds::BREAK_IF)
-}
-
-// The first SetLocal from `from` on and before `end`, or `end`. Most ops of a long body are none: to pass them over asks for their kind alone.
-fn next_set(ops: &[u32], from: usize, end: usize) -> usize
-    requires { ⌜ (from ≤ end) × (end ≤ length (now ops)) ⌝ }
-    ensures within { λ r. ⌜ (from ≤ r) × (r ≤ end) ⌝ }
-    ensures same { λ r. ⌜ ((s : ℕ) → neverSets (now (ops .entry)) s (end - from) from ≡ neverSets (now (ops .entry)) s (end - r) r) ⌝ }
-{
-    let mut at = from;
-    while at < end {
-        if ops[at] / fields::KIND_UNIT == kinds::SET_LOCAL {
-            return at;
-        }
-        at += 1;
-    }
-    at
-}
-
-// None of the n ops from i on sets v or e: one pass for both, ended at the first op that does.
-fn never_sets(ops: &[u32], v: u32, e: u32, n: usize, i: usize) -> bool
-    requires { ⌜ i + n ≤ length (now ops) ⌝ }
-    ensures { λ r. ⌜ r ≡ (neverSets (now (ops .entry)) v n i && neverSets (now (ops .entry)) e n i) ⌝ }
-{
-    let end = i + n;
-    let mut at = next_set(ops, i, end);
-    while at < end {
-        let w = ops[at];
-        if is_of(w, kinds::SET_LOCAL, v) | is_of(w, kinds::SET_LOCAL, e) {
-            return false;
-        }
-        at = next_set(ops, at + 1, end);
-    }
-    true
 }
 
 // The constant of an index is an integer over 0.

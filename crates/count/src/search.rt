@@ -7,13 +7,13 @@ use words::values::ConstValue;
 use words::values::constant_at;
 ghost use mathlib.Core.Path.{_≡_};
 ghost use mathlib.Core.Bool.{_&&_};
-ghost use Prim.Native.Nat.{ℕ, _≤_};
+ghost use Prim.Native.Nat.{_+_, _≤_};
 ghost use lib.Dec.{eqb};
 ghost use lib.ListN.{length, getD};
 ghost use Rattle.rules.specs.Form.{other};
 ghost use Rattle.rules.specs.Ops.{kind, fieldA, opAt};
 ghost use Rattle.rules.specs.Reading.{constantsOf};
-ghost use Rattle.rules.specs.Count.{lastSet, arrayLength, valueOf, constantValue};
+ghost use Rattle.rules.specs.Count.{neverSets, lastSet, arrayLength, valueOf, constantValue};
 ghost use Rattle.words.specs.Found.{foundOf};
 ghost use Rattle.count.specs.Count.{valueIs};
 
@@ -44,19 +44,37 @@ pub fn is_of(w: u32, k: u32, a: u32) -> bool
     (w / fields::KIND_UNIT == k) & (w % fields::B_UNIT == a)
 }
 
-// Behind the last SetLocal below `before`, or 0 where there is none. Most ops are none: to pass them over asks for their kind alone.
-fn behind_set(ops: &[u32], before: usize) -> usize
+// None of the n ops from i on sets v or e. The pass is not cut short, so that the machine can take several ops at a time.
+pub fn never_sets(ops: &[u32], v: u32, e: u32, n: usize, i: usize) -> bool
+    requires { ⌜ i + n ≤ length (now ops) ⌝ }
+    ensures { λ r. ⌜ r ≡ (neverSets (now (ops .entry)) v n i && neverSets (now (ops .entry)) e n i) ⌝ }
+{
+    let end = i + n;
+    let mut none = true;
+    let mut at = i;
+    while at < end {
+        let w = ops[at];
+        none = none & !(is_of(w, kinds::SET_LOCAL, v) | is_of(w, kinds::SET_LOCAL, e));
+        at += 1;
+    }
+    none
+}
+
+// So many ops are looked at together where a search goes far back.
+const PIECE: usize = 64;
+
+// The position to search below, once the pieces right below `before` that do not set the slot are passed over.
+fn past_pieces(ops: &[u32], before: usize, slot: u32) -> usize
     requires { ⌜ before ≤ length (now ops) ⌝ }
-    ensures within { λ r. ⌜ r ≤ before ⌝ }
-    ensures same { λ r. ⌜ ((s : ℕ) → lastSet (now (ops .entry)) before s ≡ lastSet (now (ops .entry)) r s) ⌝ }
+    ensures { λ r. ⌜ (r ≤ before) × (lastSet (now (ops .entry)) before slot ≡ lastSet (now (ops .entry)) r slot) ⌝ }
 {
     let mut i = before;
-    while 0 < i {
-        let last = i - 1;
-        if ops[last] / fields::KIND_UNIT == kinds::SET_LOCAL {
+    while PIECE <= i {
+        let from = i - PIECE;
+        if !never_sets(ops, slot, slot, PIECE, from) {
             return i;
         }
-        i = last;
+        i = from;
     }
     i
 }
@@ -68,7 +86,9 @@ pub fn last_set(ops: &[u32], before: usize, slot: u32) -> Found
 {
     let mut i = before;
     loop {
-        i = behind_set(ops, i);
+        if i % PIECE == 0 {
+            i = past_pieces(ops, i, slot);
+        }
         if i == 0 {
             break Found::Nothing;
         }
