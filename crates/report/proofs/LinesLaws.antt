@@ -1,5 +1,5 @@
 -- The lines of a sheet, printed in order: a line by its fields, one line more, and a text written over a list, one line a turn. Assumes nothing.
-use mathlib.Core.Path.{_≡_, refl, sym, ap, _∙_}
+use mathlib.Core.Path.{_≡_, refl, sym, _∙_}
 use mathlib.Core.List.{List, [], _∷_, _++_, flatten, append-assoc, append-nil}
 use Prim.Native.Nat.{ℕ, _+_, _*_, _<_, _≤_}
 use native.Mathlib.Numerals.{add-one}
@@ -15,14 +15,16 @@ use Rattle.sheets.proofs.TrayLaws.{tray-count, tray-row}
 
 -- the fields of a line: the chunk, and the numbers of its row
 pub row-line : (c : ℕ) (l : Line) {row : List ℕ} → row ≡ lineNumbers l
-    → flatten (fieldText c space ∷ fieldText (getD row 0 0) space ∷ fieldText (getD row 1 0) space ∷ fieldText (getD row 2 0) newline ∷ []) ≡ lineText c l
+    → flatten (fieldText c space ∷ fieldText (getD row 0 0) space ∷ fieldText (getD row 1 0) space ∷ fieldText (getD row 2 0) newline ∷ [])
+    ≡ lineText c l
 unfolding flatten fieldText
 row-line c l is = rw is (simp (append-assoc, append-nil))
 
 text-append : (xs ys : List ℕ) (lines : List Line) → linesText (xs ++ ys) lines ≡ linesText xs lines ++ linesText ys lines
 unfolding linesText
 text-append [] ys lines = refl
-text-append (x ∷ xs) ys lines = rw (text-append xs ys lines) (sym (append-assoc (lineText x (getD lines x noLine)) (linesText xs lines) (linesText ys lines)))
+text-append (x ∷ xs) ys lines =
+    rw (text-append xs ys lines) (sym (append-assoc (lineText x (getD lines x noLine)) (linesText xs lines) (linesText ys lines)))
 
 text-one : (x : ℕ) (lines : List Line) → linesText (x ∷ []) lines ≡ lineText x (getD lines x noLine)
 unfolding linesText
@@ -51,7 +53,8 @@ module _ (order numbers : List ℕ) (n at : ℕ) (out : List ℕ) where
     line-room = omega (arith, w .short, w .same)
 
     pub written-more : n ≤ length order → lineWidth * n ≤ length numbers → getD order j 0 < n → {after : List ℕ} {r : ℕ}
-        → ((l : Line) → take lineWidth (drop (lineWidth * getD order j 0) numbers) ≡ lineNumbers l → Put end (lineText (getD order j 0) l) now after r)
+        → ((l : Line) → take lineWidth (drop (lineWidth * getD order j 0) numbers) ≡ lineNumbers l
+        → Put end (lineText (getD order j 0) l) now after r)
         → r ≤ end + lineMost → length after ≡ length now → Written (j + 1) after r
     written-more long rows below {after} {r} line short same =
         let k = getD order j 0 in

@@ -75,7 +75,7 @@ module _ {ws : List ℕ} {n : ℕ} (words : Readable ws n) where
       pub kept : Kept (chunksIn ws) (take n (s .order)) (take (lineWidth * n) (s .numbers))
       kept = from-rows (chunksIn ws) (sheetOf (chunksIn ws)) refl (rw is at made)
 
-      pub kept-count : length (kept .sheet .lines) ≡ n
+      kept-count : length (kept .sheet .lines) ≡ n
       kept-count = all-lines (chunksIn ws) (kept .sheet) (kept .answers) ∙ sym (words .chunks)
 
       pub kept-room : lineWidth * n ≤ length (s .numbers)
@@ -85,7 +85,8 @@ module _ {ws : List ℕ} {n : ℕ} (words : Readable ws n) where
       pub refused-sheet : s .refuses ≡ true → Leaves ws tray (refused (s .number) (s .chunk) (s .place)) tray
       refused-sheet e = leaves ws tray _ (sheet-outcome (length tray) fits ∙ sheet-refused e)
 
-      pub whole-sheet : s .refuses ≡ false → (after : List ℕ) → after ≡ pasted 0 (take (lineWidth * n) (s .numbers)) tray → Leaves ws tray (answer n) after
+      pub whole-sheet : s .refuses ≡ false → (after : List ℕ) → after ≡ pasted 0 (take (lineWidth * n) (s .numbers)) tray
+          → Leaves ws tray (answer n) after
       whole-sheet is after e =
           let lines = kept is .sheet .lines in
           let left : after ≡ trayNumbers lines ++ drop (lineWidth * length lines) tray =

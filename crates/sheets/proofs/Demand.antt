@@ -30,7 +30,8 @@ accepts ws room s e =
     let r = from-chunk 0 (read ws) (a .1) in
     record { reads = rw r; answers = e }
 
-module _ (ws tray : List ℕ) (s : Sheet) (answers : sheetOutcome ws (length tray) ≡ answer s) (c : ℕ) (lt : c < length (chunksIn ws)) (ways : List Way) where
+module _ (ws tray : List ℕ) (s : Sheet) (answers : sheetOutcome ws (length tray) ≡ answer s)
+    (c : ℕ) (lt : c < length (chunksIn ws)) (ways : List Way) where
   accepted : Accepted ws (length tray) (chunksIn ws) s
   accepted = accepts ws (length tray) s answers
 
@@ -43,7 +44,8 @@ module _ (ws tray : List ℕ) (s : Sheet) (answers : sheetOutcome ws (length tra
 
   -- the cycles of every path that keeps its loops' counts, up to the cap, are at most the first number of its line in the tray that is left
   pub tray-cycles : KeepsCounts (chunksIn ws) false (begin (chunksIn ws) c) ways
-      → min cycleCap (pathCycles (chunksIn ws) (path (chunksIn ws) false (begin (chunksIn ws) c) ways)) ≤ getD (sheetTray (answer s) tray) (lineWidth * c + 0) 0
+      → min cycleCap (pathCycles (chunksIn ws) (path (chunksIn ws) false (begin (chunksIn ws) c) ways))
+      ≤ getD (sheetTray (answer s) tray) (lineWidth * c + 0) 0
   tray-cycles keeps =
       rw (number 0 (omega arith)) (cycles-bounded ws (length tray) (chunksIn ws) s accepted c lt ways keeps)
 
@@ -70,7 +72,8 @@ module _ (ws tray after : List ℕ) (n : ℕ) (answered : answerOutcome (Lines n
   left : after ≡ sheetTray (answer (counted .0)) tray
   left = written ∙ ap (λ (o : Outcome Sheet). sheetTray o tray) (counted .1)
 
-  -- the cycles of every path through chunk c that keeps its loops' counts, up to the cap, are at most the first number that the caller finds of its line
+  -- the cycles of every path through chunk c that keeps its loops' counts, up to the cap, are at most the first number of its line that the
+  -- caller finds
   pub call-cycles : KeepsCounts (chunksIn ws) false (begin (chunksIn ws) c) ways
       → min cycleCap (pathCycles (chunksIn ws) (path (chunksIn ws) false (begin (chunksIn ws) c) ways)) ≤ getD after (lineWidth * c + 0) 0
   call-cycles keeps = rw left (tray-cycles ws tray (counted .0) (counted .1) c in-module ways keeps)

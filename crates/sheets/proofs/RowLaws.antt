@@ -86,5 +86,6 @@ module _ {A : Type 0} (row : A → List ℕ) (w : ℕ) (size : (a : A) → lengt
           let fits : w * c + length (row a) ≤ length (flatMap row xs) = omega (arith, size a, inside) in
           ap (λ (l : List ℕ). take (w * length xs) (pasted (w * c) (row a) l)) split
           ∙ rw (pasted-before (w * c) (row a) (flatMap row xs) fits rest)
-          (take-at (pasted (w * c) (row a) (flatMap row xs)) rest (w * length xs) (pasted-length (w * c) (row a) (flatMap row xs) fits ∙ rows-length xs))
+          (take-at (pasted (w * c) (row a) (flatMap row xs)) rest (w * length xs)
+          (pasted-length (w * c) (row a) (flatMap row xs) fits ∙ rows-length xs))
           ∙ sym row-set

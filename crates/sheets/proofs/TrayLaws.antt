@@ -24,8 +24,9 @@ tray-blank n m h =
     rows.taken-alike 0 (lineWidth * n) m h
     ∙ sym (tray-rows (replicate n noLine) ∙ rows.rows-alike lineNumbers lineWidth line-size noLine 0 refl n)
 
--- so many lines as there are rows
-pub tray-count : (ls : List Line) (n : ℕ) (numbers : List ℕ) → lineWidth * n ≤ length numbers → take (lineWidth * n) numbers ≡ trayNumbers ls → length ls ≡ n
+-- as many lines as rows
+pub tray-count : (ls : List Line) (n : ℕ) (numbers : List ℕ) → lineWidth * n ≤ length numbers → take (lineWidth * n) numbers ≡ trayNumbers ls
+    → length ls ≡ n
 tray-count ls n numbers room is = omega (arith, length-take (lineWidth * n) numbers, ap length is, tray-length ls)
 
 -- a list that begins with the rows of the lines: row c, its k-th number, and another row in its place

@@ -63,11 +63,13 @@ lined-begins ws order n few =
 
 module _ {ws order : List ℕ} {n j : ℕ} {numbers bytes : List ℕ} (l : Lined ws order n j numbers bytes) where
   -- all turns are done
-  pub lined-ends : n ≤ j → answer (record { order = take n order; numbers = take (lineWidth * n) numbers }) ≡ rowsOf (inOrder (take n order) (whole ws order n))
+  pub lined-ends : n ≤ j
+      → answer (record { order = take n order; numbers = take (lineWidth * n) numbers }) ≡ rowsOf (inOrder (take n order) (whole ws order n))
   unfolding linesIn
   lined-ends h =
       let out : length (take n order) ≤ j = omega (arith, length-take n order) in
-      let all : whole ws order n ≡ answer (l .lines) = l .gives ∙ ap (λ (os : List ℕ). linesIn os (chunksIn ws) (l .lines)) (drop-of-length-le (take n order) out) in
+      let all : whole ws order n ≡ answer (l .lines) =
+      l .gives ∙ ap (λ (os : List ℕ). linesIn os (chunksIn ws) (l .lines)) (drop-of-length-le (take n order) out) in
       rw (all, l .rows)
 
   module _ (more : j < n) where
@@ -78,7 +80,8 @@ module _ {ws order : List ℕ} {n j : ℕ} {numbers bytes : List ℕ} (l : Lined
     turn : n ≤ length order → whole ws order n ≡ rest (chunkLine (chunkAt (chunksIn ws) (getD order j 0)) (take n bytes))
     unfolding linesIn
     turn room =
-        let first = drop-cons (take n order) j 0 (omega (arith, length-take n order)) ∙ ap (λ (c : ℕ). c ∷ drop (suc j) (take n order)) (getD-take n order j 0 more) in
+        let first = drop-cons (take n order) j 0 (omega (arith, length-take n order))
+        ∙ ap (λ (c : ℕ). c ∷ drop (suc j) (take n order)) (getD-take n order j 0 more) in
         l .gives
         ∙ ap (λ (os : List ℕ). linesIn os (chunksIn ws) (l .lines)) first
         ∙ ap (λ (bs : List ℕ). rest (chunkLine (chunkAt (chunksIn ws) (getD order j 0)) bs)) (sym (l .column))
@@ -124,7 +127,8 @@ module _ {ws order : List ℕ} {places : Places} {n : ℕ} (o : Ordering ws plac
   module _ (p : Parts) (is : p ≡ turnParts) where
     pub turn-parts : PartsOf ws p (chunkAt (chunksIn ws) (getD order j 0))
     turn-parts =
-        rw (is, placed .head, placed .ops-at, placed .extras-at, placed .end-at) (chunk-parts ws (chunksIn ws) (o .words .reads) (getD order j 0) below)
+        rw (is, placed .head, placed .ops-at, placed .extras-at, placed .end-at)
+        (chunk-parts ws (chunksIn ws) (o .words .reads) (getD order j 0) below)
 
     pub turn-fits : PartsFit ws p
     turn-fits =

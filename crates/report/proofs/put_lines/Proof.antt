@@ -57,7 +57,8 @@ part-put-line-end c = omega (arith, room (c .before .before))
 put-line-requires : tie.Need-put-line-requires Inv-loop μ-loop
 put-line-requires c κs =
     let i = c .before .before .before in
-    (line-room _ _ _ _ _ (i .before .loop .inv) (start i .pre .out-room) (i .loop-test .taken), simp (length-take, length-drop) (omega (arith, room i)))
+    let w = i .before .loop .inv in
+    (line-room _ _ _ _ _ w (start i .pre .out-room) (i .loop-test .taken), simp (length-take, length-drop) (omega (arith, room i)))
 
 loop-again : tie.Need-loop-again Inv-loop μ-loop
 loop-again c =

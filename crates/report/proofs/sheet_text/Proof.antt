@@ -27,7 +27,8 @@ returns c =
     let n = a .before .args .n in
     same-text _ _ _ (c .put-refused .ensures)
     (odd-bytes (take n (a .before .args .input .now))
-    (λ e. ⊎-elim (λ w. omega (arith, handed a, w .taken)) (λ w. omega (arith, handed a, ltb-true 65536 n (w .1 .taken))) (c .before .before .if1 .came)))
+    (λ e. ⊎-elim (λ w. omega (arith, handed a, w .taken)) (λ w. omega (arith, handed a, ltb-true 65536 n (w .1 .taken)))
+    (c .before .before .if1 .came)))
 
 -- the bytes are words, and no more than the buffer holds
 few : (e : tie.Else2) → e .before .before .before .args .n ≤ 65536
@@ -59,5 +60,5 @@ returns-2 c =
 pub sheet-text-spec : {M : Type 1} → statement M
 sheet-text-spec =
     tie.close
-    (tie.spec (λ c κs. search needs) returns slice-aggregate-to-words (λ c. search needs) to-words-requires array-share-prefix-words slice-aggregate-words-text
-    (λ c κs. search needs) returns-2)
+    (tie.spec (λ c κs. search needs) returns slice-aggregate-to-words (λ c. search needs) to-words-requires array-share-prefix-words
+    slice-aggregate-words-text (λ c κs. search needs) returns-2)

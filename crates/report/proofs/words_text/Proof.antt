@@ -18,10 +18,12 @@ returns c =
     let t = c .before .before in
     let k = t .before .before in
     let r = k .before .before .before in
-    same-text _ _ _ (t .put-refused .ensures) (unread-text (r .before .before .before .args .words .now) _ _ (rw (k .before .reading .given .1) at (r .read-module .ensures)))
+    same-text _ _ _ (t .put-refused .ensures)
+    (unread-text (r .before .before .before .args .words .now) _ _ (rw (k .before .reading .given .1) at (r .read-module .ensures)))
 
 -- the reader accepted the words
-accepted-words : (c : tie.After-known-told2) → Readable (c .before .before .before .before .before .before .args .words .now) (c .before .reading2 .given .0 .0)
+accepted-words : (c : tie.After-known-told2)
+    → Readable (c .before .before .before .before .before .before .args .words .now) (c .before .reading2 .given .0 .0)
 accepted-words c =
     let r = c .before .before .before in
     let a = accepted (r .before .before .before .args .words .now) _ (rw (c .before .reading2 .given .1) at (r .read-module .ensures)) in
@@ -56,7 +58,8 @@ put-lines-requires c κs =
     let e = h .before .before .before .before in
     let f = e .before in
     rw (h .put-heading .ensures .1)
-    (lines-fit (accepted-words (f .before)) _ (f .sheet-of .ensures) (e .if1 .left) (omega (arith, slice-aggregate-put-lines (c .before .before))) _ (heading-room h))
+    (lines-fit (accepted-words (f .before)) _ (f .sheet-of .ensures) (e .if1 .left)
+    (omega (arith, slice-aggregate-put-lines (c .before .before))) _ (heading-room h))
 
 returns-3 : tie.Need-returns-3
 returns-3 c =

@@ -32,8 +32,9 @@ returns c =
     let first = second .before .before .before .before in
     let start = first .before .before .before .before in
     let last = c .before .before in
-    let texts = more (first .put-bytes .ensures) (more (second .put-field .ensures) (more (third .put-field2 .ensures) (more (last .put-field3 .ensures) done))) in
-    rw (refused-line (start .args .number) (start .args .chunk) (start .args .place)) at (all-put texts (omega (arith, sizes start)))
+    let fields = more (second .put-field .ensures) (more (third .put-field2 .ensures) (more (last .put-field3 .ensures) done)) in
+    rw (refused-line (start .args .number) (start .args .chunk) (start .args .place))
+    at (all-put (more (first .put-bytes .ensures) fields) (omega (arith, sizes start)))
 
 pub put-refused-spec : {M : Type 1} → statement M
 put-refused-spec =

@@ -24,7 +24,8 @@ returns : tie.Need-returns
 returns c k parts =
     let r = c .before .before .before in
     let o = r .before .before in
-    row-told (o .before .before .before .pre) (o .ops-of .ensures) (o .before .before .before .args .callees .now) k parts _ _ (sym (ap rowResult (c .before .row2 .given .1)) ∙ r .chunk-row .ensures)
+    row-told (o .before .before .before .pre) (o .ops-of .ensures) (o .before .before .before .args .callees .now) k parts _ _
+    (sym (ap rowResult (c .before .row2 .given .1)) ∙ r .chunk-row .ensures)
 
 wcet-region-requires : tie.Need-wcet-region-requires
 wcet-region-requires c κs =
@@ -38,7 +39,8 @@ returns-2 c k parts =
     let e = w .before in
     let m = e .before .before .before .before .before in
     let o = m .before in
-    walk-told (o .before .before .before .pre) (o .ops-of .ensures) (o .before .before .before .args .callees .now) k parts (m .constants-of .ensures) (e .extras-of .ensures) _ (row-is (e .before)) _ _
+    walk-told (o .before .before .before .pre) (o .ops-of .ensures) (o .before .before .before .args .callees .now) k parts
+    (m .constants-of .ensures) (e .extras-of .ensures) _ (row-is (e .before)) _ _
     (sym (ap walkResult (c .before .walk2 .given .1)) ∙ w .wcet-region .ensures)
 
 compute-chunk-wcmu-requires : tie.Need-compute-chunk-wcmu-requires
@@ -56,8 +58,10 @@ returns-3 c k parts =
     let e = w .before in
     let m = e .before .before .before .before .before in
     let o = m .before in
-    line-told (o .before .before .before .pre) (o .ops-of .ensures) (o .before .before .before .args .callees .now) k parts (m .constants-of .ensures) (e .extras-of .ensures) _ (row-is (e .before)) _
-    (sym (ap walkResult (t .before .walk .given .1)) ∙ w .wcet-region .ensures) _ (sym (ap stackResult (c .before .stack .given .1)) ∙ z .compute-chunk-wcmu .ensures)
+    line-told (o .before .before .before .pre) (o .ops-of .ensures) (o .before .before .before .args .callees .now) k parts
+    (m .constants-of .ensures) (e .extras-of .ensures) _ (row-is (e .before)) _
+    (sym (ap walkResult (t .before .walk .given .1)) ∙ w .wcet-region .ensures) _
+    (sym (ap stackResult (c .before .stack .given .1)) ∙ z .compute-chunk-wcmu .ensures)
 
 returns-4 : tie.Need-returns-4
 returns-4 c k parts =
@@ -67,8 +71,10 @@ returns-4 c k parts =
     let e = w .before in
     let m = e .before .before .before .before .before in
     let o = m .before in
-    stack-told (o .before .before .before .pre) (o .ops-of .ensures) (o .before .before .before .args .callees .now) k parts (m .constants-of .ensures) (e .extras-of .ensures) _ (row-is (e .before)) _
-    (sym (ap walkResult (t .before .walk .given .1)) ∙ w .wcet-region .ensures) _ _ (sym (ap stackResult (c .before .stack2 .given .1)) ∙ z .compute-chunk-wcmu .ensures)
+    stack-told (o .before .before .before .pre) (o .ops-of .ensures) (o .before .before .before .args .callees .now) k parts
+    (m .constants-of .ensures) (e .extras-of .ensures) _ (row-is (e .before)) _
+    (sym (ap walkResult (t .before .walk .given .1)) ∙ w .wcet-region .ensures) _ _
+    (sym (ap stackResult (c .before .stack2 .given .1)) ∙ z .compute-chunk-wcmu .ensures)
 
 pub chunk-line-spec : {M : Type 1} → statement M
 chunk-line-spec =

@@ -74,8 +74,8 @@ returns c =
     let s = row₄ (f₄ .before) in
     let short : f₄ .put-field4 .result ≤ s .before .before .args .at + lineMost =
     omega (arith, sizes s, f₁ .put-field .ensures .1, f₂ .put-field2 .ensures .1, f₃ .put-field3 .ensures .1, f₄ .put-field4 .ensures .1) in
-    let texts = more (f₁ .put-field .ensures) (more (f₂ .put-field2 .ensures) (more (f₃ .put-field3 .ensures) (more (f₄ .put-field4 .ensures) done))) in
-    (λ l is. rw (row-line (s .before .before .args .c) l is) at (all-put texts (omega arith)), short)
+    let numbers = more (f₂ .put-field2 .ensures) (more (f₃ .put-field3 .ensures) (more (f₄ .put-field4 .ensures) done)) in
+    (λ l is. rw (row-line (s .before .before .args .c) l is) at (all-put (more (f₁ .put-field .ensures) numbers) (omega arith)), short)
 
 pub put-line-spec : {M : Type 1} → statement M
 put-line-spec =

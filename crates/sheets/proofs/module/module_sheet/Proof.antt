@@ -17,7 +17,8 @@ returns c =
     unread (a .words .now) (a .tray .now) _ _ (rw (c .before .reading .given .1) at (r .read-module .ensures))
 
 -- the reader accepted the words
-accepted-words : (c : tie.After-known-told2) → Readable (c .before .before .before .before .before .before .args .words .now) (c .before .reading2 .given .0 .0)
+accepted-words : (c : tie.After-known-told2)
+    → Readable (c .before .before .before .before .before .before .args .words .now) (c .before .reading2 .given .0 .0)
 accepted-words c =
     let r = c .before .before .before in
     let a = accepted (r .before .before .before .args .words .now) _ (rw (c .before .reading2 .given .1) at (r .read-module .ensures)) in

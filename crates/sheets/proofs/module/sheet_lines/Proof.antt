@@ -135,8 +135,8 @@ loop-again c =
     let k = c .before .before .before .before in
     let l = k .before .before in
     let i = inside l in
-    lined-more (i .before .loop .inv) (i .loop-test .taken) (few i) (entry i .pre .order-room) (below i) _ (sym (ap lineResult (k .answer .given .1)) ∙ told l)
-    (c .before .put-row .ensures)
+    lined-more (i .before .loop .inv) (i .loop-test .taken) (few i) (entry i .pre .order-room) (below i) _
+    (sym (ap lineResult (k .answer .given .1)) ∙ told l) (c .before .put-row .ensures)
 
 returns-2 : tie.Need-returns-2 Inv-loop μ-loop
 returns-2 c =
