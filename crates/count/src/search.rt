@@ -79,14 +79,14 @@ fn past_pieces(ops: &[u32], before: usize, slot: u32) -> usize
     i
 }
 
-// The last position below `before` whose op sets the slot.
+// The last position below `before` whose op sets the slot. Most are near; where a piece was passed op by op, the search goes on by pieces.
 pub fn last_set(ops: &[u32], before: usize, slot: u32) -> Found
     requires { ⌜ before ≤ length (now ops) ⌝ }
     ensures { λ r. ⌜ foundOf r ≡ lastSet (now (ops .entry)) before slot ⌝ }
 {
     let mut i = before;
     loop {
-        if i % PIECE == 0 {
+        if before - i == PIECE {
             i = past_pieces(ops, i, slot);
         }
         if i == 0 {

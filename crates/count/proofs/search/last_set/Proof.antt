@@ -53,5 +53,5 @@ loop-less c = let b = past (c .before .before .before .before .before) in omega 
 pub last-set-spec : {M : Type 1} → statement M
 last-set-spec =
     tie.close
-    (tie.spec Inv-loop μ-loop (λ c. search needs) (λ c κs. search needs) (λ c. omega arith) mul-w shared-slice-read-w (λ c κs. search needs) loop-less
+    (tie.spec Inv-loop μ-loop (λ c. search needs) (λ c. omega arith) (λ c κs. search needs) (λ c. omega arith) mul-w shared-slice-read-w (λ c κs. search needs) loop-less
     loop-again returns returns-2)
