@@ -1,14 +1,13 @@
 -- Ops none of which sets a slot, told by the words that the code reads; and a search that passes over them.
 -- Assumes nothing.
 use mathlib.Core.Path.{_≡_, refl, sym, _∙_}
-use mathlib.Core.Bool.{Bool, true, false, not, cond, _&&_, _||_, and-true, and-false, and-assoc}
+use mathlib.Core.Bool.{Bool, true, false, not, _&&_, _||_, and-true, and-false, and-assoc}
 use mathlib.Core.List.{List}
 use Prim.Native.Nat.{ℕ, zero, suc, _+_, _-_, _<_, _≤_}
 use native.Mathlib.Numerals.{add-one}
 use native.Mathlib.Omega.{arith}
-use borrow.Author.Tests.{not-false, not-true}
+use borrow.Author.Tests.{not-true}
 use lib.ListN.{length, getD}
-use Rattle.rules.specs.Outcome.{found}
 use Rattle.rules.specs.Ops.{opAt}
 use Rattle.rules.specs.Count.{isSetLocal, neverSets, lastSet}
 use Rattle.rules.proofs.Flags.{both}

@@ -1,19 +1,18 @@
 -- How the tree of a row opens at its first op, and how a row is put together again: what the walks and the row check cite.
 -- Assumes nothing.
 use mathlib.Core.Path.{_≡_, refl, ap, _∙_}
-use mathlib.Core.Bool.{Bool, true, false}
+use mathlib.Core.Bool.{Bool, true}
 use Prim.Native.Nat.{ℕ, suc, _-_, _<_, _≤_}
 use mathlib.Core.Logic.{_⊎_, inl, inr}
 use native.Mathlib.Numerals.{sub-one}
 use native.Mathlib.Omega.{arith}
 use borrow.Author.Tests.{eq-eqb}
-use lib.Dec.{eqb}
 use Rattle.rules.specs.Ops.{kind, fieldA}
 use Rattle.rules.specs.Rows.{Shape, plain, trap, returns, ifTo, elseTo, endIf, loopTo, endLoop, breaks, breaksIf, calls, shapeOf}
 use Rattle.rules.specs.Rows.{Row, end, step, stop, leave, leaveIf, ifThen, ifElse, loop, Plain, Ending, IsRow}
 use Rattle.rules.proofs.Shapes.{shape-tells}
 use Rattle.rules.proofs.RowTree.{parse-complete, no-else-arm}
-use Rattle.rows.specs.Tree.{HasRow, treeFound, treeOf}
+use Rattle.rows.specs.Tree.{treeFound, treeOf}
 use Rattle.rows.specs.Opens.{Behind, BreakAt, IfAt, ElseAt, LoopAt}
 
 -- a row that is one with no Loop around is one with a Loop around

@@ -8,8 +8,7 @@ use native.Mathlib.Numerals.{add-one, add-two, add-three, add-four}
 use borrow.Author.Tests.{eqb-true}
 use lib.Dec.{eqb}
 use Rattle.rules.specs.Ops.{kind, opAt}
-use Rattle.rules.specs.Rows.{plain, endLoop, breaksIf, shapeOf}
-use Rattle.rules.specs.Rows.{Row, end, step, stop, leave, leaveIf, ifThen, ifElse, loop, IsRow}
+use Rattle.rules.specs.Rows.{plain, endLoop, breaksIf, shapeOf, Row, end, step, stop, leave, leaveIf, ifThen, ifElse, loop, IsRow}
 use Rattle.rules.specs.Count.{hasHeader}
 use Rattle.rules.specs.Cycles.{Breaks, unbroken, costliest, noteBreak, Cost}
 use Rattle.rules.proofs.Flags.{both}

@@ -10,8 +10,7 @@ use borrow.Author.Tests.{eq-eqb, ne-eqb}
 use lib.Dec.{eqb}
 use lib.IntN.{ℤ}
 use Rattle.rules.specs.Form.{Chunk}
-use Rattle.rules.specs.Rows.{elseTo, endIf, loopTo, endLoop}
-use Rattle.rules.specs.Rows.{Row, end, step, stop, leave, leaveIf, ifThen, ifElse, loop, IsRow}
+use Rattle.rules.specs.Rows.{elseTo, endIf, loopTo, endLoop, Row, end, step, stop, leave, leaveIf, ifThen, ifElse, loop, IsRow}
 use Rattle.rules.specs.Count.{hasHeader}
 use Rattle.rules.specs.Cycles.{Breaks, unbroken, costliest, noteBreak, breakCost, Cost}
 use Rattle.rules.specs.Order.{chunkAt}

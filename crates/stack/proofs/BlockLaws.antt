@@ -21,8 +21,7 @@ use Rattle.stack.specs.declared.region.Walk as W
 use Rattle.stack.specs.declared.region.Step.{Step}
 use Rattle.stack.specs.declared.region.Step.the-variants.{Goes, Refused}
 use Rattle.stack.specs.Levels.{chunkOf, raisedTo, markedAs, heightOf, endsAt, Small}
-use Rattle.stack.specs.Steps.{PartFits, PartMeans, IfMeans, ElseMeans, LoopMeans}
-use Rattle.stack.specs.Steps.{regionHeight, partHeight, stepResult, joined, passedOnce}
+use Rattle.stack.specs.Steps.{PartFits, PartMeans, IfMeans, ElseMeans, LoopMeans, regionHeight, partHeight, stepResult, joined, passedOnce}
 use Rattle.stack.proofs.BoundLaws.{height-more, ends-small, joined-onward, raised-onward, once-onward}
 use Rattle.stack.proofs.StackLaws as L
 

@@ -16,8 +16,7 @@ use Rattle.stack.specs.declared.region.Walk as W
 use Rattle.stack.specs.declared.region.Step.{Step}
 use Rattle.stack.specs.declared.region.Step.the-variants.{Goes, Ends, Refused}
 use Rattle.stack.specs.Levels.{chunkOf, heightOf, endsAt, lifted, Small, SmallHeight}
-use Rattle.stack.specs.Steps.{regionHeight, levelHeight, liftedBy}
-use Rattle.stack.specs.Steps.{PartFits, RegionMeans, PartMeans, StepMeans}
+use Rattle.stack.specs.Steps.{regionHeight, levelHeight, liftedBy, PartFits, RegionMeans, PartMeans, StepMeans}
 use Rattle.stack.proofs.HeightLaws.{lifted-small}
 use Rattle.stack.proofs.BoundLaws.{small-more, height-more, ends-small}
 use Rattle.stack.proofs.StackLaws as L

@@ -9,10 +9,8 @@ use Rattle.rows.proofs.FitLaws.{if-within, if-arm, else-within, then-arm, else-
 use Rattle.cycles.specs.Answers.{breaksOf, chunkOf}
 use Rattle.cycles.specs.Steps.{StepMeans}
 use Rattle.cycles.proofs.CycleLaws.{part-some}
-use Rattle.cycles.proofs.StepLaws.{Rest, rest-fits, rest-end, rest-forward, rest-goes, rest-ends, rest-refused}
-use Rattle.cycles.proofs.StepLaws.{if-refused, if-open, if-goes}
-use Rattle.cycles.proofs.StepLaws.{else-refused, else-refused-second, else-joins}
-use Rattle.cycles.proofs.StepLaws.{loop-refused, loop-once, loop-passes}
+use Rattle.cycles.proofs.StepLaws.{Rest, rest-fits, rest-end, rest-forward, rest-goes, rest-ends, rest-refused, if-refused, if-open, if-goes}
+use Rattle.cycles.proofs.StepLaws.{else-refused, else-refused-second, else-joins, loop-refused, loop-once, loop-passes}
 use Rattle.cycles.proofs.StepLaws.{Charged, step-open, step-charged, step-if, step-else, step-loop, step-ends, step-break, step-break-if, step-plain}
 use borrow.Fn.Kinds.{In, Out}
 use borrow.Fn.PlainCycle.{Measures, is, falls, and}
