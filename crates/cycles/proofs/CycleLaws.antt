@@ -11,19 +11,17 @@ use Rattle.rules.specs.Outcome.{Result, ok, no, andThen}
 use Rattle.rules.specs.Ops.{opAt}
 use Rattle.rules.specs.Form.{Chunk}
 use Rattle.rules.specs.Rows.{Shape, plain, trap, returns, ifTo, elseTo, endIf, loopTo, endLoop, breaks, breaksIf, calls, shapeOf}
-use Rattle.rules.specs.Rows.{step, stop, leave, leaveIf}
 use Rattle.rules.specs.Count.{countOf}
 use Rattle.rules.specs.Cycles as R
 use Rattle.rules.specs.Cycles.{rowCost, costs}
 use Rattle.rows.specs.Tree.{HasRow}
-use Rattle.rows.specs.Opens.{Behind, BreakAt, IfAt, ElseAt, LoopAt}
 use Rattle.rows.proofs.TreeLaws.{OpensAs, tree-empty}
 use Rattle.rows.proofs.Openings.{opened}
 use Rattle.cycles.specs.declared.sums.Breaks.{Breaks}
 use Rattle.cycles.specs.declared.region.Cost.{Cost}
 use Rattle.cycles.specs.declared.region.Step.the-variants.{Goes}
 use Rattle.cycles.specs.Answers.{breaksFrom, breaksOf, costOf, chunkOf, capCharge, chargeAt, regionCost, partCost}
-use Rattle.cycles.specs.Steps.{cut, stepResult, ifTail, armsTail, elseTail, loopTail, onCharge, endsOr, joined, passesSum, allPassesAt, passOnce, onePassAt}
+use Rattle.cycles.specs.Steps.{cut, stepResult, armsTail, loopTail, onCharge, endsOr, joined, passesSum, allPassesAt, passOnce, onePassAt}
 
 -- a body with a level left
 pub part-some : (c : Chunk) (from to left : ℕ) (b : R.Breaks) {k : Result R.Cost} → (left ≡ 0 → ⊥) → k ≡ regionCost c from to (left - 1) 0 b → k ≡ partCost c from to left b
@@ -73,61 +71,6 @@ module _ (constants ops extras : List ℕ) where
         go breaksIf o = rw (o .behind .tree, e)
         go (calls k) o = rw (o .tree, e)
 
-    -- the op's charge x is in hand
-    module _ (x d : ℕ) (charged : R.chargeOf C i ≡ ok d) (is : x ≡ cut d) where
-      pub behind-plain : Behind (opAt ops) true i to step → regionCost C (suc i) to left (cut (cost + x)) b ≡ regionCost C i to left cost b
-      unfolding rowCost
-      behind-plain o = rw (o .tree, charged, is)
-
-      pub behind-stop : Behind (opAt ops) true i to stop → ok (costs (cut (cost + x)) true b) ≡ regionCost C i to left cost b
-      unfolding rowCost
-      behind-stop o = rw (o .tree, charged, is)
-
-      pub behind-break : BreakAt (opAt ops) true i to leave → ok (costs (cut (cost + x)) true (R.noteBreak b (cut (cost + x)))) ≡ regionCost C i to left cost b
-      unfolding rowCost
-      behind-break o = rw (o .behind .tree, charged, is)
-
-      pub behind-break-if : BreakAt (opAt ops) true i to leaveIf → regionCost C (suc i) to left (cut (cost + x)) (R.noteBreak b (cut (cost + x))) ≡ regionCost C i to left cost b
-      unfolding rowCost
-      behind-break-if o = rw (o .behind .tree, charged, is)
-
-      pub behind-if : (t : ℕ) → IfAt (opAt ops) true i to t → ifTail C i t to left (cut (cost + x)) b ≡ regionCost C i to left cost b
-      unfolding rowCost
-      behind-if t a = rw (a .tree, charged, is)
-
-      pub behind-else : (e f : ℕ) → ElseAt (opAt ops) true i to e f → elseTail C i e f to left (cut (cost + x)) b ≡ regionCost C i to left cost b
-      unfolding rowCost
-      behind-else e f a = rw (a .tree, charged, is)
-
-      pub behind-loop : (e : ℕ) → LoopAt (opAt ops) true i to e → loopTail C i e to left (cut (cost + x)) b ≡ regionCost C i to left cost b
-      unfolding rowCost
-      behind-loop e a = rw (a .tree, charged, is)
-
-  -- behind an If that was charged, with EndIf at t
-  module _ (i t to left cost : ℕ) (b : R.Breaks) where
-    pub if-refused : (n p : ℕ) → no n p ≡ partCost C (suc i) t left b → no n p ≡ ifTail C i t to left cost b
-    if-refused n p e = rw (← e)
-
-    module _ (arm : R.Cost) (walked : ok arm ≡ partCost C (suc i) t left b) where
-      pub if-open : R.chargeOf C t ≡ no 8 t → no 8 t ≡ ifTail C i t to left cost b
-      if-open e = rw (← walked, e)
-
-      pub if-goes : (y d : ℕ) → R.chargeOf C t ≡ ok d → y ≡ cut d
-          → regionCost C (suc t) to left (cut (cut (cost + arm .cycles) + y)) (arm .breaks) ≡ ifTail C i t to left cost b
-      if-goes y d e is = rw (← walked, e, is)
-
-  -- behind an If that was charged, with Else at e and EndIf at f
-  module _ (i e f to left cost : ℕ) (b : R.Breaks) where
-    pub else-first : (n p : ℕ) → no n p ≡ partCost C (suc i) e left b → no n p ≡ elseTail C i e f to left cost b
-    else-first n p g = rw (← g)
-
-    module _ (arm : R.Cost) (walked : ok arm ≡ partCost C (suc i) e left b) where
-      pub else-second : (n p : ℕ) → no n p ≡ partCost C (suc e) f left (arm .breaks) → no n p ≡ elseTail C i e f to left cost b
-      else-second n p g = rw (← walked, ← g)
-
-      pub else-joins : (other : R.Cost) → ok other ≡ partCost C (suc e) f left (arm .breaks) → armsTail C e f to left cost arm other ≡ elseTail C i e f to left cost b
-      else-joins other g = rw (← walked, ← g)
-
   -- both arms joined, as a step
   pub joined-means : (e f to left cost : ℕ) (arm other : Cost) → stepResult C to left (joined ops extras e f cost arm other) ≡ armsTail C e f to left cost (costOf arm) (costOf other)
   joined-means e f to left cost arm other = go (R.chargeOf C e) (R.chargeOf C f)
@@ -148,9 +91,6 @@ module _ (constants ops extras : List ℕ) where
 
   -- behind a Loop that was charged, with EndLoop at e
   module _ (i e to left cost : ℕ) (b : Breaks) where
-    pub loop-refused : (n p : ℕ) → no n p ≡ partCost C (suc i) e left R.unbroken → no n p ≡ loopTail C i e to left cost (breaksOf b)
-    loop-refused n p g = rw (← g)
-
     module _ (body : Cost) (walked : ok (costOf body) ≡ partCost C (suc i) e left R.unbroken) where
       -- a body that never reaches its end
       pub loop-once : body .ends ≡ true → stepResult C to left (onePassAt e cost body b) ≡ loopTail C i e to left cost (breaksOf b)

@@ -10,6 +10,7 @@ use Rattle.rules.specs.Outcome.{Result, ok, no}
 use Rattle.rules.specs.Ops.{opAt}
 use Rattle.rules.specs.Count.{countOf}
 use Rattle.rules.specs.Cycles as R
+use Rattle.rules.specs.Cycles.{rowCost}
 use Rattle.rows.specs.Tree.{HasRow}
 use Rattle.rows.specs.Opens.{Opens, RowFits, StepFits, IfFits, ElseFits, LoopFits}
 use Rattle.rows.specs.declared.block.Block.{Block}
@@ -26,7 +27,7 @@ use Rattle.cycles.specs.declared.region.Step.{Step}
 use Rattle.cycles.specs.declared.region.Step.the-variants.{Goes, Ends, Refused}
 use Rattle.cycles.specs.Answers.{breaksOf, costOf, chunkOf, chargeAt, chargeResult, walkResult, regionCost, partCost}
 use Rattle.cycles.specs.Steps.{StepMeans, IfMeans, ElseMeans, LoopMeans, Onward}
-use Rattle.cycles.specs.Steps.{cut, endedAt, joined, onePassAt, passOnce, passesSum, allPassesAt, onCharge, endsOr}
+use Rattle.cycles.specs.Steps.{cut, ifTail, endedAt, joined, onePassAt, passOnce, passesSum, allPassesAt, onCharge, endsOr}
 use Rattle.cycles.proofs.CycleLaws as L
 
 -- what is left of a row at i, with the cost and the breaks so far, gives the row's answer
@@ -61,24 +62,27 @@ module _ {ops : List ℕ} {i t to : ℕ} (h : IfFits ops i t to) where
   module _ (constants extras : List ℕ) (left cost : ℕ) (b : Breaks) (r : W.Walk)
       (walked : walkResult r ≡ partCost (chunkOf constants ops extras) (i + 1) t left (breaksOf b)) where
     pub if-refused : {n p : ℕ} → r ≡ W.the-variants.Refused n p → IfMeans constants ops extras i t to left cost b (Refused n p)
-    if-refused e = (L.if-refused constants ops extras i t to left cost (breaksOf b) _ _ (rw (e, add-one) at walked), tt)
+    if-refused {n} {p} e =
+        let w : no n p ≡ partCost (chunkOf constants ops extras) (suc i) t left (breaksOf b) = rw (e, add-one) at walked in
+        (rw (← w), tt)
 
     module _ (arm : Cost) (done : r ≡ W.the-variants.Done arm) (q : Charge) (charged : chargeResult t q ≡ chargeAt ops extras t) where
+      arm-is : ok (costOf arm) ≡ partCost (chunkOf constants ops extras) (suc i) t left (breaksOf b)
+      arm-is = rw (done, add-one) at walked
+
       pub if-open : q ≡ OpenText → IfMeans constants ops extras i t to left cost b (Refused 8 t)
-      if-open o = (
-        L.if-open constants ops extras i t to left cost (breaksOf b) (costOf arm) (rw (done, add-one) at walked)
-            (L.charge-open constants ops extras t (rw o at charged)),
-        tt,
-      )
+      if-open o = (rw (← arm-is, L.charge-open constants ops extras t (rw o at charged)), tt)
+
+      closes : (y d : ℕ) → R.chargeOf (chunkOf constants ops extras) t ≡ ok d → y ≡ cut d
+          → regionCost (chunkOf constants ops extras) (suc t) to left (cut (cut (cost + arm .cycles) + y)) (breaksOf (arm .breaks))
+          ≡ ifTail (chunkOf constants ops extras) i t to left cost (breaksOf b)
+      closes y d e is = rw (← arm-is, e, is)
 
       pub if-goes : {y first total : ℕ} → q ≡ Is y → first ≡ cut (cost + arm .cycles) → total ≡ cut (first + y)
           → IfMeans constants ops extras i t to left cost b (Goes (t + 1) total (arm .breaks))
       if-goes {y} k f s =
           let d = L.charge-is constants ops extras t y (rw k at charged) in
-          rw (add-one, s, f) (
-            L.if-goes constants ops extras i t to left cost (breaksOf b) (costOf arm) (rw (done, add-one) at walked) y (d .0) (d .1) (d .2),
-            (omega (arith, if-within h), h .at .within, h .at .rest),
-          )
+          rw (add-one, s, f) (closes y (d .0) (d .1) (d .2), (omega (arith, if-within h), h .at .within, h .at .rest))
 
 -- an If at i with Else at e and EndIf at f
 module _ {ops : List ℕ} {i e f to : ℕ} (h : ElseFits ops i e f to) where
@@ -98,23 +102,25 @@ module _ {ops : List ℕ} {i e f to : ℕ} (h : ElseFits ops i e f to) where
   module _ (constants extras : List ℕ) (left cost : ℕ) (b : Breaks) (r : W.Walk)
       (walked : walkResult r ≡ partCost (chunkOf constants ops extras) (i + 1) e left (breaksOf b)) where
     pub else-refused : {n p : ℕ} → r ≡ W.the-variants.Refused n p → ElseMeans constants ops extras i e f to left cost b (Refused n p)
-    else-refused z = (L.else-first constants ops extras i e f to left cost (breaksOf b) _ _ (rw (z, add-one) at walked), tt)
+    else-refused {n} {p} z =
+        let w : no n p ≡ partCost (chunkOf constants ops extras) (suc i) e left (breaksOf b) = rw (z, add-one) at walked in
+        (rw (← w), tt)
 
     module _ (arm : Cost) (done : r ≡ W.the-variants.Done arm) (s : W.Walk)
         (second : walkResult s ≡ partCost (chunkOf constants ops extras) (e + 1) f left (breaksOf (arm .breaks))) where
+      first-is : ok (costOf arm) ≡ partCost (chunkOf constants ops extras) (suc i) e left (breaksOf b)
+      first-is = rw (done, add-one) at walked
+
       pub else-refused-second : {n p : ℕ} → s ≡ W.the-variants.Refused n p → ElseMeans constants ops extras i e f to left cost b (Refused n p)
-      else-refused-second z =
-          (L.else-second constants ops extras i e f to left cost (breaksOf b) (costOf arm) (rw (done, add-one) at walked) _ _ (rw (z, add-one) at second), tt)
+      else-refused-second {n} {p} z =
+          let w : no n p ≡ partCost (chunkOf constants ops extras) (suc e) f left (breaksOf (arm .breaks)) = rw (z, add-one) at second in
+          (rw (← first-is, ← w), tt)
 
       pub else-joins : (other : Cost) → s ≡ W.the-variants.Done other → (k : Step) → k ≡ joined ops extras e f cost arm other
           → ElseMeans constants ops extras i e f to left cost b k
       else-joins other z k is =
-          rw is (
-            L.joined-means constants ops extras e f to left cost arm other
-                ∙ L.else-joins constants ops extras i e f to left cost (breaksOf b) (costOf arm) (rw (done, add-one) at walked)
-                (costOf other) (rw (z, add-one) at second),
-            else-onward extras cost arm other,
-          )
+          let w : ok (costOf other) ≡ partCost (chunkOf constants ops extras) (suc e) f left (breaksOf (arm .breaks)) = rw (z, add-one) at second in
+          rw is (L.joined-means constants ops extras e f to left cost arm other ∙ rw (← first-is, ← w), else-onward extras cost arm other)
 
 -- a Loop at i with EndLoop at e
 module _ {ops : List ℕ} {i e to : ℕ} (h : LoopFits ops i e to) where
@@ -133,7 +139,9 @@ module _ {ops : List ℕ} {i e to : ℕ} (h : LoopFits ops i e to) where
   module _ (constants extras : List ℕ) (left cost : ℕ) (b : Breaks) (r : W.Walk)
       (walked : walkResult r ≡ partCost (chunkOf constants ops extras) (i + 1) e left R.unbroken) where
     pub loop-refused : {n p : ℕ} → r ≡ W.the-variants.Refused n p → LoopMeans constants ops extras i e to left cost b (Refused n p)
-    loop-refused z = (L.loop-refused constants ops extras i e to left cost b _ _ (rw (z, add-one) at walked), tt)
+    loop-refused {n} {p} z =
+        let w : no n p ≡ partCost (chunkOf constants ops extras) (suc i) e left R.unbroken = rw (z, add-one) at walked in
+        (rw (← w), tt)
 
     module _ (body : Cost) (done : r ≡ W.the-variants.Done body) where
       pub loop-once : body .ends ≡ true → (k : Step) → k ≡ onePassAt e cost body b → LoopMeans constants ops extras i e to left cost b k
@@ -172,45 +180,50 @@ module _ {constants ops extras : List ℕ} {i to left cycles cost : ℕ} {b : Br
     {k : Block} (opens : Opens ops i to k) where
   pub step-if : {t : ℕ} (r : Step) → k ≡ If t → ((to : ℕ) → IfFits ops i t to → IfMeans constants ops extras i t to left cost b r)
       → StepMeans constants ops extras i to left cycles b r
+  unfolding rowCost
   step-if {t} r e m =
       let o = rw e at opens in
       let n = m to (record { row = a .fits .row; at = o }) in
-      (n .0 ∙ rw (a .sum) (L.behind-if constants ops extras i to left cycles (breaksOf b) (a .own) (a .exact) (a .charge) (a .is) _ o), n .1)
+      (n .0 ∙ rw (o .tree, a .charge, a .sum, a .is), n .1)
 
   pub step-else : {x f : ℕ} (r : Step) → k ≡ IfElse x f → ((to : ℕ) → ElseFits ops i x f to → ElseMeans constants ops extras i x f to left cost b r)
       → StepMeans constants ops extras i to left cycles b r
+  unfolding rowCost
   step-else r e m =
       let o = rw e at opens in
       let n = m to (record { row = a .fits .row; at = o }) in
-      (n .0 ∙ rw (a .sum) (L.behind-else constants ops extras i to left cycles (breaksOf b) (a .own) (a .exact) (a .charge) (a .is) _ _ o), n .1)
+      (n .0 ∙ rw (o .tree, a .charge, a .sum, a .is), n .1)
 
   pub step-loop : {x : ℕ} (r : Step) → k ≡ Loop x → ((to : ℕ) → LoopFits ops i x to → LoopMeans constants ops extras i x to left cost b r)
       → StepMeans constants ops extras i to left cycles b r
+  unfolding rowCost
   step-loop r e m =
       let o = rw e at opens in
       let n = m to (record { row = a .fits .row; at = o }) in
-      (n .0 ∙ rw (a .sum) (L.behind-loop constants ops extras i to left cycles (breaksOf b) (a .own) (a .exact) (a .charge) (a .is) _ o), n .1)
+      (n .0 ∙ rw (o .tree, a .charge, a .sum, a .is), n .1)
 
   pub step-ends : (r : Step) → k ≡ B.Ends → r ≡ endedAt cost b → StepMeans constants ops extras i to left cycles b r
+  unfolding rowCost
   step-ends r e is =
       let o = rw e at opens in
-      rw is (rw (a .sum) (L.behind-stop constants ops extras i to left cycles (breaksOf b) (a .own) (a .exact) (a .charge) (a .is) o), tt)
+      rw is (rw (o .tree, a .charge, a .sum, a .is), tt)
 
   pub step-break : {n : Breaks} (r : Step) → k ≡ Break → breaksOf n ≡ R.noteBreak (breaksOf b) cost → r ≡ endedAt cost n
       → StepMeans constants ops extras i to left cycles b r
+  unfolding rowCost
   step-break r e z is =
       let o = rw e at opens in
-      rw is (rw (z, a .sum) (L.behind-break constants ops extras i to left cycles (breaksOf b) (a .own) (a .exact) (a .charge) (a .is) o), tt)
+      rw is (rw (z, o .behind .tree, a .charge, a .sum, a .is), tt)
 
   pub step-break-if : (n : Breaks) → k ≡ BreakIf → breaksOf n ≡ R.noteBreak (breaksOf b) cost
       → StepMeans constants ops extras i to left cycles b (Goes (i + 1) cost n)
+  unfolding rowCost
   step-break-if n e z =
       let o = rw e at opens in
-      let g = L.behind-break-if constants ops extras i to left cycles (breaksOf b) (a .own) (a .exact) (a .charge) (a .is) o in
-      rw add-one (rw (z, a .sum) g, (omega arith, a .fits .here, o .behind .rest))
+      rw add-one (rw (z, o .behind .tree, a .charge, a .sum, a .is), (omega arith, a .fits .here, o .behind .rest))
 
   pub step-plain : k ≡ Plain → StepMeans constants ops extras i to left cycles b (Goes (i + 1) cost b)
+  unfolding rowCost
   step-plain e =
       let o = rw e at opens in
-      let g = L.behind-plain constants ops extras i to left cycles (breaksOf b) (a .own) (a .exact) (a .charge) (a .is) o in
-      rw add-one (rw (a .sum) g, (omega arith, a .fits .here, o .rest))
+      rw add-one (rw (o .tree, a .charge, a .sum, a .is), (omega arith, a .fits .here, o .rest))

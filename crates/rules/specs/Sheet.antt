@@ -107,6 +107,13 @@ lineNumbers l = l .cycles ∷ l .peak ∷ l .bytes ∷ []
 abbrev pub lineWidth : ℕ
 lineWidth = 3
 
+-- the places of the cycles and of the bytes among them
+abbrev pub cyclesPlace : ℕ
+cyclesPlace = 0
+
+abbrev pub bytesPlace : ℕ
+bytesPlace = 2
+
 abbrev pub sheetRoom : ℕ
 sheetRoom = mostChunks * lineWidth
 

@@ -10,7 +10,7 @@ use lib.Seq.{take-at}
 use Rattle.rules.specs.Outcome.{Outcome, answer, refused}
 use Rattle.rules.specs.Reading.{read}
 use Rattle.rules.specs.Limits.{cycleCap}
-use Rattle.rules.specs.Sheet.{noLine, Sheet, readModule, sheetOutcome, sheetTray, lineNumbers, lineWidth, trayNumbers}
+use Rattle.rules.specs.Sheet.{noLine, Sheet, readModule, sheetOutcome, sheetTray, lineNumbers, lineWidth, cyclesPlace, bytesPlace, trayNumbers}
 use Rattle.rules.specs.Paths.{Way, begin, path, pathCycles, pathBytes, KeepsCounts, KeepsDepths}
 use Rattle.rules.specs.Claims.{Accepted}
 use Rattle.rules.proofs.Answers.{from-answer, from-chunk}
@@ -42,18 +42,18 @@ module _ (ws tray : List ℕ) (s : Sheet) (answers : sheetOutcome ws (length tra
       let begins = take-at (trayNumbers (s .lines)) (drop (lineWidth * length (s .lines)) tray) _ (tray-length (s .lines)) in
       tray-number (s .lines) (sheetTray (answer s) tray) begins c lined k below
 
-  -- the cycles of every path that keeps its loops' counts, up to the cap, are at most the first number of its line in the tray that is left
+  -- the cycles of every path that keeps its loops' counts, up to the cap, are at most the cycles of its line in the tray that is left
   pub tray-cycles : KeepsCounts (chunksIn ws) false (begin (chunksIn ws) c) ways
       → min cycleCap (pathCycles (chunksIn ws) (path (chunksIn ws) false (begin (chunksIn ws) c) ways))
-      ≤ getD (sheetTray (answer s) tray) (lineWidth * c + 0) 0
+      ≤ getD (sheetTray (answer s) tray) (lineWidth * c + cyclesPlace) 0
   tray-cycles keeps =
-      rw (number 0 (omega arith)) (cycles-bounded ws (length tray) (chunksIn ws) s accepted c lt ways keeps)
+      rw (number cyclesPlace (omega arith)) (cycles-bounded ws (length tray) (chunksIn ws) s accepted c lt ways keeps)
 
-  -- and its stack bytes, callees run, where it keeps its depths, at most the third number of its line
+  -- and its stack bytes, callees run, where it keeps its depths, at most the bytes of its line
   pub tray-bytes : KeepsDepths (chunksIn ws) true (begin (chunksIn ws) c) ways
-      → pathBytes (chunksIn ws) c (path (chunksIn ws) true (begin (chunksIn ws) c) ways) ≤ getD (sheetTray (answer s) tray) (lineWidth * c + 2) 0
+      → pathBytes (chunksIn ws) c (path (chunksIn ws) true (begin (chunksIn ws) c) ways) ≤ getD (sheetTray (answer s) tray) (lineWidth * c + bytesPlace) 0
   tray-bytes keeps =
-      rw (number 2 (omega arith)) (stack-bounded ws (length tray) (chunksIn ws) s accepted c lt ways keeps)
+      rw (number bytesPlace (omega arith)) (stack-bounded ws (length tray) (chunksIn ws) s accepted c lt ways keeps)
 
 -- an answer that counts lines comes from a sheet with so many
 from-count : (o : Outcome Sheet) (n : ℕ) → answerOutcome (Lines n) ≡ countOf o → (s : Sheet) × (o ≡ answer s) × (length (s .lines) ≡ n)
@@ -72,13 +72,12 @@ module _ (ws tray after : List ℕ) (n : ℕ) (answered : answerOutcome (Lines n
   left : after ≡ sheetTray (answer (counted .0)) tray
   left = written ∙ ap (λ (o : Outcome Sheet). sheetTray o tray) (counted .1)
 
-  -- the cycles of every path through chunk c that keeps its loops' counts, up to the cap, are at most the first number of its line that the
-  -- caller finds
+  -- the cycles of every path through chunk c that keeps its loops' counts, up to the cap, are at most the cycles of its line that the caller finds
   pub call-cycles : KeepsCounts (chunksIn ws) false (begin (chunksIn ws) c) ways
-      → min cycleCap (pathCycles (chunksIn ws) (path (chunksIn ws) false (begin (chunksIn ws) c) ways)) ≤ getD after (lineWidth * c + 0) 0
+      → min cycleCap (pathCycles (chunksIn ws) (path (chunksIn ws) false (begin (chunksIn ws) c) ways)) ≤ getD after (lineWidth * c + cyclesPlace) 0
   call-cycles keeps = rw left (tray-cycles ws tray (counted .0) (counted .1) c in-module ways keeps)
 
-  -- and its stack bytes, callees run, where it keeps its depths, at most the third number of its line
+  -- and its stack bytes, callees run, where it keeps its depths, at most the bytes of its line
   pub call-bytes : KeepsDepths (chunksIn ws) true (begin (chunksIn ws) c) ways
-      → pathBytes (chunksIn ws) c (path (chunksIn ws) true (begin (chunksIn ws) c) ways) ≤ getD after (lineWidth * c + 2) 0
+      → pathBytes (chunksIn ws) c (path (chunksIn ws) true (begin (chunksIn ws) c) ways) ≤ getD after (lineWidth * c + bytesPlace) 0
   call-bytes keeps = rw left (tray-bytes ws tray (counted .0) (counted .1) c in-module ways keeps)
