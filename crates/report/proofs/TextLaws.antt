@@ -31,17 +31,18 @@ same-text xs ys l p e = (p .0 ∙ ap (λ (t : List ℕ). pasted 0 t l) e, omega 
 pub unread-text : (ws : List ℕ) (n p : ℕ) → refused n 0 p ≡ readOutcome ws → outcomeText (refused n 0 p) ≡ outcomeText (sheetOutcome ws sheetRoom)
 unread-text ws n p e = ap outcomeText (refused-before ws n p _ e)
 
-module _ {ws : List ℕ} {n : ℕ} (words : Readable ws n) (s : Sheet) (made : sheetIs n s ≡ rowsOf (sheetOf (chunksIn ws))) where
+module _ {ws : List ℕ} {n : ℕ} (words : Readable ws n) (s : Sheet) (numbers : List ℕ)
+    (made : sheetIs n s numbers ≡ rowsOf (sheetOf (chunksIn ws))) where
   outcome : sheetOutcome ws sheetRoom ≡ sheetOf (chunksIn ws)
   outcome = sheet-outcome words sheetRoom (omega (arith, few-chunks words))
 
   pub refused-text : s .refuses ≡ true → outcomeText (refused (s .number) (s .chunk) (s .place)) ≡ outcomeText (sheetOutcome ws sheetRoom)
-  refused-text e = sym (ap outcomeText (outcome ∙ sheet-refused words s made e))
+  refused-text e = sym (ap outcomeText (outcome ∙ sheet-refused words s numbers made e))
 
   module _ (is : s .refuses ≡ false) where
     -- the lines of the sheet, whose numbers are the rows
-    abbrev k : Kept (chunksIn ws) (take n (s .order)) (take (lineWidth * n) (s .numbers))
-    k = kept words s made is
+    abbrev k : Kept (chunksIn ws) (take n (s .order)) (take (lineWidth * n) numbers)
+    k = kept words s numbers made is
 
     pub answered-text : heading ++ linesText (take n (s .order)) (k .sheet .lines) ≡ outcomeText (sheetOutcome ws sheetRoom)
     answered-text = rw (k .in-order) (sym (ap outcomeText (outcome ∙ k .answers)))
@@ -53,10 +54,10 @@ module _ {ws : List ℕ} {n : ℕ} (words : Readable ws n) (s : Sheet) (made : s
         omega (arith, words .chunks, rw (← k .in-order, getD-take n (s .order) j 0 lt) at below)
 
     -- the heading and 256 lines
-    pub lines-fit : length (s .order) ≡ mostChunks → (out : List ℕ) → sheetMost ≤ length out → LinesFit (s .order) (s .numbers) n out (length heading)
+    pub lines-fit : length (s .order) ≡ mostChunks → (out : List ℕ) → sheetMost ≤ length out → LinesFit (s .order) numbers n out (length heading)
     lines-fit orders out room =
         let few = few-chunks words in
-        record { chunks = listed (omega arith); order-room = omega arith; numbers-room = kept-room words s made is; out-room = omega arith }
+        record { chunks = listed (omega arith); order-room = omega arith; numbers-room = kept-room words s numbers made is; out-room = omega arith }
 
 -- bytes that are no words are refused by 1
 pub odd-bytes : (bytes : List ℕ) → (length bytes % 4 ≡ 0 → ⊥) → outcomeText (refused 1 0 0) ≡ sheetText bytes

@@ -5,6 +5,7 @@ use line::HEADING;
 use line::LINE;
 use line::put_heading;
 use line::put_line;
+use lines::row::ROOM;
 use lines::row::WIDTH;
 use sheets::module::sheet_of;
 use text::put_refused;
@@ -59,14 +60,13 @@ fn words_text(words: &[u32], out: &mut [u8]) -> usize
         }
         Reading::Accepted(chunks) => chunks as usize,
     };
-    let sheet = sheet_of(words, n);
+    let mut numbers = [0u32; ROOM];
+    let sheet = sheet_of(words, n, &mut numbers);
     if sheet.refuses {
         return put_refused(out, 0, sheet.number, sheet.chunk as u64, sheet.place as u64);
     }
-    let order = sheet.order;
-    let numbers = sheet.numbers;
     let at = put_heading(out, 0);
-    put_lines(&order, &numbers, n, out, at)
+    put_lines(&sheet.order, &numbers, n, out, at)
 }
 
 // The lines of the first n chunks of the order, from `at` on, and the place behind them.

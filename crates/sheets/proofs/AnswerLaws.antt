@@ -6,20 +6,21 @@ use mathlib.Core.List.{List, _++_}
 use Prim.Native.Nat.{ℕ, _*_, _<_, _≤_}
 use native.Mathlib.Omega.{arith}
 use borrow.Author.Tests.{le-leb, lt-leb}
-use lib.ListN.{length, take, drop, length-take}
+use lib.ListN.{length, take, drop, replicate}
 use Rattle.rules.specs.Outcome.{ok, Outcome, answer, refused}
 use Rattle.rules.specs.Form.{Chunk}
 use Rattle.rules.specs.Reading.{read}
 use Rattle.rules.specs.Sheet as R
-use Rattle.rules.specs.Sheet.{readOutcome, sheetOf, sheetOutcome, lineWidth, trayNumbers, sheetTray}
+use Rattle.rules.specs.Sheet.{readOutcome, sheetOf, sheetOutcome, lineWidth, sheetRoom, trayNumbers, sheetTray}
 use Rattle.words.specs.Parts.{chunksIn}
 use Rattle.words.proofs.LookupLaws.{refused-before}
 use Rattle.order.specs.Search.{Readable}
+use Rattle.order.proofs.VisitLaws.{few-chunks}
 use Rattle.sheets.specs.declared.module.Sheet.{Sheet}
 use Rattle.text.specs.Paste.{pasted}
 use Rattle.text.proofs.PasteLaws.{pasted-first}
-use Rattle.sheets.specs.Module.{Rows, rowsOf, sheetIs, countOf}
-use Rattle.sheets.proofs.TrayLaws.{tray-length}
+use Rattle.sheets.specs.Module.{Rows, rowsOf, sheetIs, Blank, countOf}
+use Rattle.sheets.proofs.TrayLaws.{tray-length, tray-blank, tray-room}
 use Rattle.sheets.proofs.SheetLaws.{all-lines}
 
 -- the answer and the tray that it leaves
@@ -67,25 +68,29 @@ module _ {ws : List ℕ} {n : ℕ} (words : Readable ws n) where
   pub sheet-outcome : (room : ℕ) → lineWidth * n ≤ room → sheetOutcome ws room ≡ sheetOf (chunksIn ws)
   sheet-outcome room fits = fitting ws (chunksIn ws) (words .reads) room (omega (arith, words .chunks))
 
-  module _ (s : Sheet) (made : sheetIs n s ≡ rowsOf (sheetOf (chunksIn ws))) where
+  -- the most numbers, all zeros, begin with its empty lines
+  pub zeros-blank : Blank n (replicate sheetRoom 0)
+  zeros-blank = tray-blank n sheetRoom (omega (arith, few-chunks words))
+
+  module _ (s : Sheet) (numbers : List ℕ) (made : sheetIs n s numbers ≡ rowsOf (sheetOf (chunksIn ws))) where
     pub sheet-refused : s .refuses ≡ true → sheetOf (chunksIn ws) ≡ refused (s .number) (s .chunk) (s .place)
     sheet-refused e = from-refused (sheetOf (chunksIn ws)) (rw e at made)
 
     module _ (is : s .refuses ≡ false) where
-      pub kept : Kept (chunksIn ws) (take n (s .order)) (take (lineWidth * n) (s .numbers))
+      pub kept : Kept (chunksIn ws) (take n (s .order)) (take (lineWidth * n) numbers)
       kept = from-rows (chunksIn ws) (sheetOf (chunksIn ws)) refl (rw is at made)
 
       kept-count : length (kept .sheet .lines) ≡ n
       kept-count = all-lines (chunksIn ws) (kept .sheet) (kept .answers) ∙ sym (words .chunks)
 
-      pub kept-room : lineWidth * n ≤ length (s .numbers)
-      kept-room = omega (arith, length-take (lineWidth * n) (s .numbers), ap length (kept .in-rows), tray-length (kept .sheet .lines), kept-count)
+      pub kept-room : lineWidth * n ≤ length numbers
+      kept-room = tray-room (kept .sheet .lines) n numbers kept-count (kept .in-rows)
 
     module _ (tray : List ℕ) (fits : lineWidth * n ≤ length tray) where
       pub refused-sheet : s .refuses ≡ true → Leaves ws tray (refused (s .number) (s .chunk) (s .place)) tray
       refused-sheet e = leaves ws tray _ (sheet-outcome (length tray) fits ∙ sheet-refused e)
 
-      pub whole-sheet : s .refuses ≡ false → (after : List ℕ) → after ≡ pasted 0 (take (lineWidth * n) (s .numbers)) tray
+      pub whole-sheet : s .refuses ≡ false → (after : List ℕ) → after ≡ pasted 0 (take (lineWidth * n) numbers) tray
           → Leaves ws tray (answer n) after
       whole-sheet is after e =
           let lines = kept is .sheet .lines in

@@ -24,6 +24,11 @@ tray-blank n m h =
     rows.taken-alike 0 (lineWidth * n) m h
     ∙ sym (tray-rows (replicate n noLine) ∙ rows.rows-alike lineNumbers lineWidth line-size noLine 0 refl n)
 
+-- as many numbers as the rows have
+pub tray-room : (ls : List Line) (n : ℕ) (numbers : List ℕ) → length ls ≡ n → take (lineWidth * n) numbers ≡ trayNumbers ls
+    → lineWidth * n ≤ length numbers
+tray-room ls n numbers count is = omega (arith, length-take (lineWidth * n) numbers, ap length is, tray-length ls)
+
 -- as many lines as rows
 pub tray-count : (ls : List Line) (n : ℕ) (numbers : List ℕ) → lineWidth * n ≤ length numbers → take (lineWidth * n) numbers ≡ trayNumbers ls
     → length ls ≡ n

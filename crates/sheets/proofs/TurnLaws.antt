@@ -10,7 +10,7 @@ use Rattle.rules.specs.Limits.{mostChunks}
 use Rattle.rules.specs.Outcome.{Result, ok, no, Outcome, answer, refused, followedBy, inChunk}
 use Rattle.rules.specs.Order.{chunkAt}
 use Rattle.rules.specs.Sheet as R
-use Rattle.rules.specs.Sheet.{noLine, chunkLine, bytesList, linesIn, lineNumbers, lineWidth, sheetRoom, trayNumbers}
+use Rattle.rules.specs.Sheet.{noLine, chunkLine, bytesList, linesIn, lineNumbers, lineWidth, trayNumbers}
 use Rattle.rules.proofs.ReadingAgrees.{read-words}
 use Rattle.words.specs.declared.parts.Parts.{Parts}
 use Rattle.words.specs.Parts.{partsFrom, chunksIn, PartsOf, PartsFit}
@@ -18,10 +18,9 @@ use Rattle.words.specs.declared.heads.Places.{Places}
 use Rattle.words.specs.Places.{PlacedAt}
 use Rattle.words.proofs.PartLaws.{chunk-fits, at-within, chunk-parts}
 use Rattle.text.specs.Paste.{pasted}
-use Rattle.text.proofs.PasteLaws.{pasted-length}
-use Rattle.sheets.specs.Module.{inOrder, rowsOf, Ordering}
+use Rattle.sheets.specs.Module.{inOrder, rowsOf, Blank, Ordering}
 use Rattle.sheets.proofs.RowLaws.{taken-alike}
-use Rattle.sheets.proofs.TrayLaws.{tray-blank, tray-stored}
+use Rattle.sheets.proofs.TrayLaws.{tray-stored}
 
 -- what all turns come to
 abbrev pub whole : List ℕ → List ℕ → ℕ → Outcome (List R.Line)
@@ -40,7 +39,6 @@ bytes-set (x ∷ ls) (suc c) l = ap (λ (bs : List ℕ). x .bytes ∷ bs) (bytes
 -- before turn j: the lines so far, their rows, and their stack bytes
 pub record Lined (ws order : List ℕ) (n j : ℕ) (numbers bytes : List ℕ) : Type 0 where
   pub upto : j ≤ n
-  pub numbers-size : length numbers ≡ sheetRoom
   pub bytes-size : length bytes ≡ mostChunks
   pub lines : List R.Line
   pub count : length lines ≡ n
@@ -48,15 +46,15 @@ pub record Lined (ws order : List ℕ) (n j : ℕ) (numbers bytes : List ℕ) : 
   pub column : take n bytes ≡ bytesList lines
   pub gives : whole ws order n ≡ linesIn (drop j (take n order)) (chunksIn ws) lines
 
-pub lined-begins : (ws order : List ℕ) (n : ℕ) → n ≤ mostChunks → Lined ws order n 0 (replicate sheetRoom 0) (replicate mostChunks 0)
-lined-begins ws order n few =
+pub lined-begins : (ws order : List ℕ) (n : ℕ) → n ≤ mostChunks → {numbers : List ℕ} → Blank n numbers
+    → Lined ws order n 0 numbers (replicate mostChunks 0)
+lined-begins ws order n few blank =
     record {
       upto = omega arith;
-      numbers-size = length-replicate {A = ℕ} sheetRoom 0;
       bytes-size = length-replicate {A = ℕ} mostChunks 0;
       lines = replicate n noLine;
       count = length-replicate n noLine;
-      rows = tray-blank n sheetRoom (omega arith);
+      rows = blank;
       column = taken-alike 0 n mostChunks few ∙ sym (bytes-alike n noLine);
       gives = refl;
     }
@@ -94,7 +92,6 @@ module _ {ws order : List ℕ} {n j : ℕ} {numbers bytes : List ℕ} (l : Lined
         let c = getD order j 0 in
         record {
           upto = omega arith;
-          numbers-size = ap length stored ∙ pasted-length (lineWidth * c) (lineNumbers x) numbers (omega (arith, l .numbers-size)) ∙ l .numbers-size;
           bytes-size = length-set bytes c (x .bytes) ∙ l .bytes-size;
           lines = set (l .lines) c x;
           count = length-set (l .lines) c x ∙ l .count;

@@ -1,8 +1,9 @@
 -- What the rows and the answers of the module sheet stand for in document 01.
+use mathlib.Core.Path.{_≡_}
 use mathlib.Core.Bool.{Bool, true, false}
 use mathlib.Core.List.{List}
 use Prim.Native.Nat.{ℕ, _*_, _<_, _≤_}
-use lib.ListN.{length, getD, take}
+use lib.ListN.{length, getD, take, replicate}
 use Rattle.rules.specs.Outcome.{Outcome, answer, refused, followedBy}
 use Rattle.rules.specs.Sheet as R
 use Rattle.words.specs.declared.heads.Places.{Places}
@@ -24,14 +25,18 @@ pub record Rows : Type 0 where
 abbrev pub rowsOf : Outcome R.Sheet → Outcome Rows
 rowsOf o = followedBy o (λ s. answer (record { order = s .order; numbers = R.trayNumbers (s .lines) }))
 
--- a sheet of n chunks: its order and its rows, or a refusal
+-- a sheet of n chunks: its order and the rows that stand in the numbers, or a refusal
 abbrev pub refusedIf : Bool → Rows → ℕ → ℕ → ℕ → Outcome Rows
 refusedIf true s m c p = refused m c p
 refusedIf false s m c p = answer s
 
-abbrev pub sheetIs : ℕ → Sheet → Outcome Rows
-sheetIs n s =
-    refusedIf (s .refuses) (record { order = take n (s .order); numbers = take (R.lineWidth * n) (s .numbers) }) (s .number) (s .chunk) (s .place)
+abbrev pub sheetIs : ℕ → Sheet → List ℕ → Outcome Rows
+sheetIs n s numbers =
+    refusedIf (s .refuses) (record { order = take n (s .order); numbers = take (R.lineWidth * n) numbers }) (s .number) (s .chunk) (s .place)
+
+-- numbers that begin with the rows of n empty lines
+abbrev pub Blank : ℕ → List ℕ → Type 0
+Blank n numbers = take (R.lineWidth * n) numbers ≡ R.trayNumbers (replicate n R.noLine)
 
 -- an answer says how many chunks have their lines in the tray
 abbrev pub answerOutcome : SheetAnswer → Outcome ℕ

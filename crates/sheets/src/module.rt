@@ -12,6 +12,7 @@ use words::reader::Reading;
 use words::reader::read_module;
 use words::refusals;
 ghost use mathlib.Core.Path.{_≡_};
+ghost use mathlib.Core.List.{List};
 ghost use Prim.Native.Nat.{ℕ, _≤_};
 ghost use lib.ListN.{length, take, replicate};
 ghost use Rattle.rules.specs.Outcome.{refused};
@@ -19,19 +20,19 @@ ghost use Rattle.rules.specs.Sheet.{noLine, linesIn, sheetOf, sheetOutcome, she
 ghost use Rattle.words.specs.Parts.{chunksIn};
 ghost use Rattle.order.specs.Search.{Readable};
 ghost use Rattle.text.specs.Paste.{pasted};
-ghost use Rattle.sheets.specs.Module.{inOrder, rowsOf, sheetIs, answerOutcome, countOf, Ordering};
+ghost use Rattle.sheets.specs.Module.{inOrder, rowsOf, sheetIs, answerOutcome, countOf, Blank, Ordering};
 
 // The numbers of a line in the tray.
 pub const WIDTH: usize = lines::row::WIDTH;
 
-// A sheet as it is worked out: the call order and the numbers of the lines, a row a chunk, or, where it refuses, the refusal.
+// A sheet as it is worked out: the call order, or, where it refuses, the refusal. The numbers of the lines, a row a chunk, stand in a list that the caller
+// lends: in here they would be copied with it.
 pub struct Sheet {
     pub refuses: bool,
     pub number: u32,
     pub chunk: usize,
     pub place: usize,
     pub order: [u8; CHUNKS],
-    pub numbers: [u32; ROOM],
 }
 
 // The number of chunks whose lines stand in the tray, or a refusal.
@@ -68,7 +69,8 @@ pub fn module_sheet(words: &[u32], tray: &mut [u32]) -> SheetAnswer
             place: 0,
         };
     }
-    let sheet = sheet_of(words, n);
+    let mut numbers = [0u32; ROOM];
+    let sheet = sheet_of(words, n, &mut numbers);
     if sheet.refuses {
         return SheetAnswer::Refused {
             number: sheet.number,
@@ -76,15 +78,15 @@ pub fn module_sheet(words: &[u32], tray: &mut [u32]) -> SheetAnswer
             place: sheet.place,
         };
     }
-    let numbers = sheet.numbers;
     fill_tray(&numbers[..count], tray);
     SheetAnswer::Lines(n as u32)
 }
 
-// The sheet of words that are a module of n chunks: the call order, then chunk after chunk in that order.
-pub fn sheet_of(words: &[u32], n: usize) -> Sheet
-    requires { ⌜ Readable (now words) n ⌝ }
-    ensures { λ r. ⌜ sheetIs n r ≡ rowsOf (sheetOf (chunksIn (now (words .entry)))) ⌝ }
+// The sheet of words that are a module of n chunks: the call order, then chunk after chunk in that order. The numbers are lent as zeros;
+// after a refusal they say nothing.
+pub fn sheet_of(words: &[u32], n: usize, numbers: &mut [u32]) -> Sheet
+    requires { ⌜ (Readable (now words) n) × (Blank n (now numbers)) ⌝ }
+    ensures { λ r. ⌜ sheetIs n r (now (numbers .exit)) ≡ rowsOf (sheetOf (chunksIn (now (words .entry)))) ⌝ }
 {
     let places = chunk_places(words, n);
     let ops_at = places.ops;
@@ -94,15 +96,20 @@ pub fn sheet_of(words: &[u32], n: usize) -> Sheet
         return refusal(refusals::RING, s.ring, 0);
     }
     let order = s.order;
-    sheet_lines(words, places, order, n)
+    sheet_lines(words, places, order, n, numbers)
 }
 
 // The lines of the chunks that stand at these places, in call order. The stack bytes stand in a list of their own too, for the callers' walks.
-fn sheet_lines(words: &[u32], places: Places, order: [u8; CHUNKS], n: usize) -> Sheet
-    requires { ⌜ Ordering (now words) places order n ⌝ }
-    ensures { λ r. ⌜ sheetIs n r ≡ rowsOf (inOrder (take n order) (linesIn (take n order) (chunksIn (now (words .entry))) (replicate n noLine))) ⌝ }
+fn sheet_lines(
+    words: &[u32],
+    places: Places,
+    order: [u8; CHUNKS],
+    n: usize,
+    numbers: &mut [u32],
+) -> Sheet
+    requires { ⌜ (Ordering (now words) places order n) × (Blank n (now numbers)) ⌝ }
+    ensures { λ r. ⌜ sheetIs n r (now (numbers .exit)) ≡ rowsOf (inOrder (take n order) (linesIn (take n order) (chunksIn (now (words .entry))) (replicate n noLine))) ⌝ }
 {
-    let mut numbers = [0u32; ROOM];
     let mut bytes = [0u32; CHUNKS];
     let mut j = 0;
     while j < n {
@@ -118,7 +125,7 @@ fn sheet_lines(words: &[u32], places: Places, order: [u8; CHUNKS], n: usize) -> 
                 return refusal(number, c, place);
             }
         };
-        put_row(&mut numbers, c, line);
+        put_row(numbers, c, line);
         bytes[c] = line.bytes.0;
         j += 1;
     }
@@ -128,13 +135,12 @@ fn sheet_lines(words: &[u32], places: Places, order: [u8; CHUNKS], n: usize) -> 
         chunk: 0,
         place: 0,
         order,
-        numbers,
     }
 }
 
 // A sheet that refuses.
 fn refusal(number: u32, chunk: usize, place: usize) -> Sheet
-    ensures { λ r. ⌜ ((n : ℕ) → sheetIs n r ≡ refused number chunk place) ⌝ }
+    ensures { λ r. ⌜ ((n : ℕ) (numbers : List ℕ) → sheetIs n r numbers ≡ refused number chunk place) ⌝ }
 {
     Sheet {
         refuses: true,
@@ -142,7 +148,6 @@ fn refusal(number: u32, chunk: usize, place: usize) -> Sheet
         chunk,
         place,
         order: [0; CHUNKS],
-        numbers: [0; ROOM],
     }
 }
 

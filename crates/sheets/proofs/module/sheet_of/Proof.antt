@@ -20,8 +20,8 @@ slice-aggregate-call-order-2 c = search needs
 abbrev placed : tie.After-extras-at2 → tie.After-chunk-places
 placed c = c .before .before .before .before
 
-abbrev words : (c : tie.After-chunk-places) → Readable (c .before .before .args .words .now) (c .before .before .args .n)
-words c = c .before .before .pre
+abbrev words : (c : tie.After-chunk-places) → Readable (c .before .before .before .args .words .now) (c .before .before .before .args .n)
+words c = c .before .before .before .pre .0
 
 call-order-requires : tie.Need-call-order-requires
 call-order-requires c κs =
@@ -38,23 +38,24 @@ returns : tie.Need-returns
 returns c =
     let o = c .before .before .before in
     let p = placed (o .before) in
-    c .refusal .ensures (p .before .before .args .n) ∙ ring-sheet (words p) _ (o .call-order .ensures) (c .before .if1 .taken)
+    c .refusal .ensures (p .before .before .before .args .n) _ ∙ ring-sheet (words p) _ (o .call-order .ensures) (c .before .if1 .taken)
 
 sheet-lines-requires : tie.Need-sheet-lines-requires
 sheet-lines-requires c κs =
-    let e = c .before in
+    let e = c .before .before in
     let o = e .before .before in
     let p = placed (o .before) in
-    ordering (words p) _ (o .call-order .ensures) (e .if1 .left) _ (p .chunk-places .ensures)
+    (ordering (words p) _ (o .call-order .ensures) (e .if1 .left) _ (p .chunk-places .ensures), p .before .before .before .pre .1)
 
 returns-2 : tie.Need-returns-2
 returns-2 c =
-    let e = c .before .before in
+    let l = c .before .before in
+    let e = l .before .before .before in
     let o = e .before .before in
-    c .sheet-lines .ensures ∙ ap rowsOf (lines-sheet (words (placed (o .before))) _ (o .call-order .ensures) (e .if1 .left))
+    l .sheet-lines .ensures ∙ ap rowsOf (lines-sheet (words (placed (o .before))) _ (o .call-order .ensures) (e .if1 .left))
 
 pub sheet-of-spec : {M : Type 1} → statement M
 sheet-of-spec =
     tie.close
     (tie.spec (λ c κs. search needs) slice-aggregate-call-order slice-aggregate-call-order-2 call-order-requires (λ c κs. search needs) returns
-    sheet-lines-requires returns-2)
+    sheet-lines-requires (λ c. search needs) returns-2)
