@@ -7,8 +7,10 @@ use Prim.Native.Nat.{ℕ, zero, suc, _+_, _-_, _<_, _≤_}
 use native.Mathlib.Numerals.{add-one}
 use native.Mathlib.Omega.{arith}
 use borrow.Author.Tests.{not-true}
+use lib.Dec.{eqb}
 use lib.ListN.{length, getD}
-use Rattle.rules.specs.Ops.{opAt}
+use Rattle.rules.specs.Kinds as K
+use Rattle.rules.specs.Ops.{kind, opAt}
 use Rattle.rules.specs.Count.{isSetLocal, neverSets, lastSet}
 use Rattle.rules.proofs.Flags.{both}
 use Rattle.words.proofs.OpLaws.{read-op}
@@ -47,6 +49,9 @@ never-last ops s zero i = let z : i + 0 ≡ i = omega arith in rw z (and-true (n
 never-last ops s (suc m) i =
     let z : i + suc m ≡ suc i + m = omega arith in
     rw (never-last ops s m (suc i), z) (sym (and-assoc (not (isSetLocal s (opAt ops i))) (neverSets ops s m (suc i)) (not (isSetLocal s (opAt ops (suc i + m))))))
+
+pub never-more : (ops : List ℕ) (s m i : ℕ) → eqb (kind (opAt ops (i + m))) K.SetLocal ≡ false → neverSets ops s (suc m) i ≡ neverSets ops s m i
+never-more ops s m i e = never-last ops s m i ∙ rw e (and-true (neverSets ops s m i))
 
 -- a search passes over ops that do not set its slot
 pub last-past : (ops : List ℕ) (s m i : ℕ) → neverSets ops s m i ≡ true → lastSet ops (i + m) s ≡ lastSet ops i s

@@ -69,7 +69,7 @@ fn has_increment(constants: &[u32], ops: &[u32], n: usize, v: u32) -> bool
 }
 
 // The body of the loop at p, whose EndLoop is to be at n, advances v once, at its tail, and sets neither v elsewhere nor e. The op right before EndLoop sets v,
-// so v is not e, and of the other ops none sets either.
+// so v is not e, and of the ops before the increment none sets either.
 pub fn loop_body_advances_induction(
     constants: &[u32],
     ops: &[u32],
@@ -87,7 +87,7 @@ pub fn loop_body_advances_induction(
     if v == e || !has_increment(constants, ops, n, v) {
         return false;
     }
-    never_sets(ops, v, e, n - (p + 6), p + 5)
+    never_sets(ops, v, e, n - (p + 10), p + 5)
 }
 
 // How often a counter that goes up passes from start to stop, if that is at most 4,294,967,295.
