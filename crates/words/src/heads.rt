@@ -37,25 +37,22 @@ pub fn chunk_places(words: &[u32], n: usize) -> Places
     requires { ⌜ (read (now words) ≡ ok (chunksIn (now words))) × (n ≡ length (chunksIn (now words))) ⌝ }
     ensures { λ r. ⌜ ((k : ℕ) → k < n → PlacedAt (now (words .entry)) r k) ⌝ }
 {
-    let mut heads = [0u16; CHUNKS];
-    let mut ops = [0u16; CHUNKS];
-    let mut extras = [0u16; CHUNKS];
-    let mut ends = [0u16; CHUNKS];
+    let mut places = Places {
+        heads: [0; CHUNKS],
+        ops: [0; CHUNKS],
+        extras: [0; CHUNKS],
+        ends: [0; CHUNKS],
+    };
     let mut at = 1;
     let mut i = 0;
     while i < n {
         let p = parts_at(words, at);
-        heads[i] = at as u16;
-        ops[i] = p.ops as u16;
-        extras[i] = p.extras as u16;
-        ends[i] = p.end as u16;
+        places.heads[i] = at as u16;
+        places.ops[i] = p.ops as u16;
+        places.extras[i] = p.extras as u16;
+        places.ends[i] = p.end as u16;
         at = p.end;
         i += 1;
     }
-    Places {
-        heads,
-        ops,
-        extras,
-        ends,
-    }
+    places
 }

@@ -5,18 +5,19 @@ use mathlib.Core.Path.{_≡_, refl}
 use native.Mathlib.Omega.{arith}
 use Rattle.rules.proofs.ReadingAgrees.{read-words}
 use Rattle.words.specs.Parts.{chunksIn, headAt}
-use Rattle.words.specs.Places.{PlacesAt}
+use Rattle.words.specs.Places.{PlacedAt}
 use Rattle.words.proofs.PartLaws.{first-head, at-within, next-at}
 use Rattle.words.proofs.PlaceLaws.{Sized, places-fit, places-more}
 use Rattle.words.proofs.heads.chunk_places.Statement.{statement}
 use Rattle.words.proofs.heads.chunk_places.Tie as tie
 
 abbrev Inv-loop : tie.InvT-loop
-Inv-loop words n heads₀ ops₀ extras₀ ends₀ at₀ i₀ heads ops extras ends at i =
-    (i ≤ n) × Sized heads ops extras ends × (at ≡ headAt (chunksIn words) i) × ((k : ℕ) → k < i → PlacesAt words heads ops extras ends k)
+Inv-loop words n places₀ at₀ i₀ places at i =
+    (i ≤ n) × Sized (places .heads) (places .ops) (places .extras) (places .ends) × (at ≡ headAt (chunksIn words) i)
+    × ((k : ℕ) → k < i → PlacedAt words places k)
 
 abbrev μ-loop : tie.MeasureT-loop
-μ-loop words n heads₀ ops₀ extras₀ ends₀ at₀ i₀ heads ops extras ends at i = n - i
+μ-loop words n places₀ at₀ i₀ places at i = n - i
 
 loop-holds : tie.Need-loop-holds Inv-loop μ-loop
 loop-holds c = (omega arith, record { heads-size = refl; ops-size = refl; extras-size = refl; ends-size = refl }, first-head (chunksIn (c .before .args .words .now)), λ k h. absurd (omega arith))
@@ -41,41 +42,41 @@ fit c =
     let a = l .before .before in
     places-fit (a .args .words .now) (a .pre .0) (l .loop .i) (omega arith) (l .loop .at) _ (l .loop .inv .2) (c .parts-at .ensures)
 
-cast-heads : tie.Need-cast-heads Inv-loop μ-loop
-cast-heads c = omega (arith, fit c .0)
+cast-places : tie.Need-cast-places Inv-loop μ-loop
+cast-places c = omega (arith, fit c .0)
 
-mul-heads : tie.Need-mul-heads Inv-loop μ-loop
-mul-heads c = omega (arith, few (c .before))
+mul-places : tie.Need-mul-places Inv-loop μ-loop
+mul-places c = omega (arith, few (c .before))
 
-array-write-heads : tie.Need-array-write-heads Inv-loop μ-loop
-array-write-heads c = omega (arith, few (c .before))
+element-write-places : tie.Need-element-write-places Inv-loop μ-loop
+element-write-places c = omega (arith, few (c .before))
 
-cast-ops : tie.Need-cast-ops Inv-loop μ-loop
-cast-ops c = omega (arith, fit (c .before) .1)
+cast-places-2 : tie.Need-cast-places-2 Inv-loop μ-loop
+cast-places-2 c = omega (arith, fit (c .before) .1)
 
-mul-ops : tie.Need-mul-ops Inv-loop μ-loop
-mul-ops c = omega (arith, few (c .before .before))
+mul-places-2 : tie.Need-mul-places-2 Inv-loop μ-loop
+mul-places-2 c = omega (arith, few (c .before .before))
 
-array-write-ops : tie.Need-array-write-ops Inv-loop μ-loop
-array-write-ops c = omega (arith, few (c .before .before))
+element-write-places-2 : tie.Need-element-write-places-2 Inv-loop μ-loop
+element-write-places-2 c = omega (arith, few (c .before .before))
 
-cast-extras : tie.Need-cast-extras Inv-loop μ-loop
-cast-extras c = omega (arith, fit (c .before .before) .2)
+cast-places-3 : tie.Need-cast-places-3 Inv-loop μ-loop
+cast-places-3 c = omega (arith, fit (c .before .before) .2)
 
-mul-extras : tie.Need-mul-extras Inv-loop μ-loop
-mul-extras c = omega (arith, few (c .before .before .before))
+mul-places-3 : tie.Need-mul-places-3 Inv-loop μ-loop
+mul-places-3 c = omega (arith, few (c .before .before .before))
 
-array-write-extras : tie.Need-array-write-extras Inv-loop μ-loop
-array-write-extras c = omega (arith, few (c .before .before .before))
+element-write-places-3 : tie.Need-element-write-places-3 Inv-loop μ-loop
+element-write-places-3 c = omega (arith, few (c .before .before .before))
 
-cast-ends : tie.Need-cast-ends Inv-loop μ-loop
-cast-ends c = omega (arith, fit (c .before .before .before) .3)
+cast-places-4 : tie.Need-cast-places-4 Inv-loop μ-loop
+cast-places-4 c = omega (arith, fit (c .before .before .before) .3)
 
-mul-ends : tie.Need-mul-ends Inv-loop μ-loop
-mul-ends c = omega (arith, few (c .before .before .before .before))
+mul-places-4 : tie.Need-mul-places-4 Inv-loop μ-loop
+mul-places-4 c = omega (arith, few (c .before .before .before .before))
 
-array-write-ends : tie.Need-array-write-ends Inv-loop μ-loop
-array-write-ends c = omega (arith, few (c .before .before .before .before))
+element-write-places-4 : tie.Need-element-write-places-4 Inv-loop μ-loop
+element-write-places-4 c = omega (arith, few (c .before .before .before .before))
 
 loop-again : tie.Need-loop-again Inv-loop μ-loop
 loop-again c =
@@ -92,5 +93,6 @@ returns c k h = c .before .loop .inv .3 k (omega arith)
 pub chunk-places-spec : {M : Type 1} → statement M
 chunk-places-spec =
     tie.close
-    (tie.spec Inv-loop μ-loop loop-holds parts-at-requires cast-heads mul-heads array-write-heads cast-ops mul-ops array-write-ops cast-extras
-    mul-extras array-write-extras cast-ends mul-ends array-write-ends (λ c. omega arith) (λ c. omega arith) loop-again returns)
+    (tie.spec Inv-loop μ-loop loop-holds parts-at-requires cast-places mul-places element-write-places cast-places-2 mul-places-2
+    element-write-places-2 cast-places-3 mul-places-3 element-write-places-3 cast-places-4 mul-places-4 element-write-places-4
+    (λ c. omega arith) (λ c. omega arith) loop-again returns)
