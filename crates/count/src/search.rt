@@ -79,14 +79,14 @@ fn past_pieces(ops: &[u32], before: usize, slot: u32) -> usize
     i
 }
 
-// The last position below `before` whose op sets the slot. Most are near; where a piece was passed op by op, the search goes on by pieces.
-pub fn last_set(ops: &[u32], before: usize, slot: u32) -> Found
+// The last position below `before` whose op sets the slot. Most are near; with `far`, a search that has passed a piece op by op goes on by pieces.
+pub fn last_set(ops: &[u32], before: usize, slot: u32, far: bool) -> Found
     requires { ⌜ before ≤ length (now ops) ⌝ }
     ensures { λ r. ⌜ foundOf r ≡ lastSet (now (ops .entry)) before slot ⌝ }
 {
     let mut i = before;
     loop {
-        if before - i == PIECE {
+        if far & (before - i == PIECE) {
             i = past_pieces(ops, i, slot);
         }
         if i == 0 {
@@ -101,12 +101,12 @@ pub fn last_set(ops: &[u32], before: usize, slot: u32) -> Found
 }
 
 // The length of the array in a slot, whose SetLocal is searched below `before`: a literal right before that SetLocal, or a copy of
-// another slot, which is followed from there.
+// another slot, which is followed from there. The searches go op by op: what they would need for pieces would be on the stack for every copy.
 pub fn trace_literal_array_length(ops: &[u32], before: usize, slot: u32) -> Value
     requires { ⌜ before ≤ length (now ops) ⌝ }
     ensures { λ r. ⌜ valueIs r ≡ arrayLength (now (ops .entry)) before slot ⌝ }
 {
-    let found = last_set(ops, before, slot);
+    let found = last_set(ops, before, slot, false);
     let Found::At(at) = found else {
         return Value::Unknown;
     };
@@ -129,7 +129,7 @@ pub fn trace_const_set_local(constants: &[u32], ops: &[u32], before: usize, slot
     requires { ⌜ before ≤ length (now ops) ⌝ }
     ensures { λ r. ⌜ valueIs r ≡ valueOf (constantsOf (now (constants .entry))) (now (ops .entry)) before slot ⌝ }
 {
-    let found = last_set(ops, before, slot);
+    let found = last_set(ops, before, slot, true);
     let Found::At(at) = found else {
         return Value::Unknown;
     };

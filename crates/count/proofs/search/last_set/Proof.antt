@@ -11,10 +11,10 @@ use Rattle.count.proofs.search.last_set.Statement.{statement}
 use Rattle.count.proofs.search.last_set.Tie as tie
 
 abbrev Inv-loop : tie.InvT-loop
-Inv-loop ops before slot i₀ i = (i ≤ before) × (lastSet ops before slot ≡ lastSet ops i slot)
+Inv-loop ops before slot far i₀ i = (i ≤ before) × (lastSet ops before slot ≡ lastSet ops i slot)
 
 abbrev μ-loop : tie.MeasureT-loop
-μ-loop ops before slot i₀ i = i
+μ-loop ops before slot far i₀ i = i
 
 -- behind the pieces that were passed over, if any
 past : (c : tie.Joined1 Inv-loop μ-loop) → let a = c .before .before .before .args in
