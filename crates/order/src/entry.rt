@@ -27,8 +27,8 @@ pub enum OrderAnswer {
     },
 }
 
-// The search over all n chunks from 0 up: a chunk that is listed already is passed over. The places have one lifetime, so that a caller can lend two lists of one struct.
-pub fn call_order<'a>(words: &[u32], ops_at: &'a [u16], extras_at: &'a [u16], n: usize) -> Search
+// The search over all n chunks from 0 up: a chunk that is listed already is passed over.
+pub fn call_order(words: &[u32], ops_at: &[u16], extras_at: &[u16], n: usize) -> Search
     requires { ⌜ Located (now words) (now «ops_at») (now «extras_at») n ⌝ }
     ensures { λ r. ⌜ Shown r n [] (callOrder (chunksIn (now (words .entry)))) ⌝ }
 {
@@ -70,7 +70,9 @@ pub fn topological_call_order(words: &[u32], tray: &mut [u32]) -> OrderAnswer
         };
     }
     let places = chunk_places(words, n);
-    let s = call_order(words, &places.ops, &places.extras, n);
+    let ops_at = places.ops;
+    let extras_at = places.extras;
+    let s = call_order(words, &ops_at, &extras_at, n);
     if s.ring < CHUNKS {
         return OrderAnswer::Refused {
             number: refusals::RING,
@@ -78,7 +80,8 @@ pub fn topological_call_order(words: &[u32], tray: &mut [u32]) -> OrderAnswer
             place: 0,
         };
     }
-    fill_tray(&s.order, n, tray);
+    let order = s.order;
+    fill_tray(&order, n, tray);
     OrderAnswer::Listed(n as u32)
 }
 

@@ -89,7 +89,9 @@ pub fn sheet_of(words: &[u32], n: usize, numbers: &mut [u32]) -> Sheet
     ensures { λ r. ⌜ sheetIs n r (now (numbers .exit)) ≡ rowsOf (sheetOf (chunksIn (now (words .entry)))) ⌝ }
 {
     let places = chunk_places(words, n);
-    let s = call_order(words, &places.ops, &places.extras, n);
+    let ops_at = places.ops;
+    let extras_at = places.extras;
+    let s = call_order(words, &ops_at, &extras_at, n);
     if s.ring < CHUNKS {
         return refusal(refusals::RING, s.ring, 0);
     }

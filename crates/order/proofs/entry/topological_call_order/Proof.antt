@@ -31,9 +31,15 @@ chunk-places-requires c κs =
     let words = accepted-words (c .before) in
     (words .reads, words .chunks)
 
+slice-aggregate-call-order : tie.Need-slice-aggregate-call-order
+slice-aggregate-call-order c = search needs
+
+slice-aggregate-call-order-2 : tie.Need-slice-aggregate-call-order-2
+slice-aggregate-call-order-2 c = search needs
+
 -- the places are found, and the search is called
-abbrev placed : tie.After-call-order-arg4 → tie.After-chunk-places
-placed c = c .before .before .before .before .before
+abbrev placed : tie.After-extras-at2 → tie.After-chunk-places
+placed c = c .before .before .before .before
 
 call-order-requires : tie.Need-call-order-requires
 call-order-requires c κs =
@@ -43,26 +49,29 @@ call-order-requires c κs =
       words = words;
       ops-at = λ k lt. p .chunk-places .ensures k lt .ops-at;
       extras-at = λ k lt. p .chunk-places .ensures k lt .extras-at;
-      ops-room = omega (arith, few-chunks words);
-      extras-room = omega (arith, few-chunks words);
+      ops-room = omega (arith, few-chunks words, slice-aggregate-call-order (c .before));
+      extras-room = omega (arith, few-chunks words, slice-aggregate-call-order-2 c);
     }
 
 returns-3 : tie.Need-returns-3
 returns-3 c =
-    let o = c .before in
+    let o = c .before .before in
     let e = placed (o .before) .before in
     ring-met (accepted-words (e .before)) _ (o .call-order .ensures) _ (e .if1 .left) (c .if2 .taken)
+
+slice-aggregate-fill-tray : tie.Need-slice-aggregate-fill-tray
+slice-aggregate-fill-tray c = search needs
 
 fill-tray-requires : tie.Need-fill-tray-requires
 fill-tray-requires c κs =
     let e = placed (c .before .before .before .before .before .before) .before in
-    (omega (arith, few-chunks (accepted-words (e .before))), e .if1 .left)
+    (omega (arith, few-chunks (accepted-words (e .before)), slice-aggregate-fill-tray (c .before)), e .if1 .left)
 
 returns-4 : tie.Need-returns-4
 returns-4 c =
     let t = c .before .before in
-    let f = t .before .before .before .before .before in
-    let o = f .before in
+    let f = t .before .before .before .before in
+    let o = f .before .before in
     let e = placed (o .before) .before in
     all-listed (accepted-words (e .before)) _ (o .call-order .ensures) (f .if2 .left) _ (e .if1 .left) _ (t .fill-tray .ensures)
 
@@ -70,4 +79,5 @@ pub topological-call-order-spec : {M : Type 1} → statement M
 topological-call-order-spec =
     tie.close
     (tie.spec (λ c κs. search needs) (λ c. search needs) returns (λ c. search needs) (λ c. search needs) returns-2 chunk-places-requires
-    call-order-requires returns-3 fill-tray-requires (λ c. search needs) (λ c. search needs) returns-4)
+    slice-aggregate-call-order slice-aggregate-call-order-2 call-order-requires returns-3 slice-aggregate-fill-tray fill-tray-requires
+    (λ c. search needs) (λ c. search needs) returns-4)

@@ -10,9 +10,15 @@ use borrow.Author.Needs.{needs}
 use Rattle.sheets.proofs.module.sheet_of.Statement.{statement}
 use Rattle.sheets.proofs.module.sheet_of.Tie as tie
 
+slice-aggregate-call-order : tie.Need-slice-aggregate-call-order
+slice-aggregate-call-order c = search needs
+
+slice-aggregate-call-order-2 : tie.Need-slice-aggregate-call-order-2
+slice-aggregate-call-order-2 c = search needs
+
 -- the places are found, and the search is called
-abbrev placed : tie.After-call-order-arg4 → tie.After-chunk-places
-placed c = c .before .before .before .before .before
+abbrev placed : tie.After-extras-at2 → tie.After-chunk-places
+placed c = c .before .before .before .before
 
 abbrev words : (c : tie.After-chunk-places) → Readable (c .before .before .before .args .words .now) (c .before .before .before .args .n)
 words c = c .before .before .before .pre .0
@@ -24,8 +30,8 @@ call-order-requires c κs =
       words = words p;
       ops-at = λ k lt. p .chunk-places .ensures k lt .ops-at;
       extras-at = λ k lt. p .chunk-places .ensures k lt .extras-at;
-      ops-room = omega (arith, few-chunks (words p));
-      extras-room = omega (arith, few-chunks (words p));
+      ops-room = omega (arith, few-chunks (words p), slice-aggregate-call-order (c .before));
+      extras-room = omega (arith, few-chunks (words p), slice-aggregate-call-order-2 c);
     }
 
 returns : tie.Need-returns
@@ -51,5 +57,5 @@ returns-2 c =
 pub sheet-of-spec : {M : Type 1} → statement M
 sheet-of-spec =
     tie.close
-    (tie.spec (λ c κs. search needs) call-order-requires (λ c κs. search needs) returns
+    (tie.spec (λ c κs. search needs) slice-aggregate-call-order slice-aggregate-call-order-2 call-order-requires (λ c κs. search needs) returns
     sheet-lines-requires (λ c. search needs) returns-2)
