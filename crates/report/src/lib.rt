@@ -65,8 +65,9 @@ fn words_text(words: &[u32], out: &mut [u8]) -> usize
     if sheet.refuses {
         return put_refused(out, 0, sheet.number, sheet.chunk as u64, sheet.place as u64);
     }
+    let order = sheet.order;
     let at = put_heading(out, 0);
-    put_lines(&sheet.order, &numbers, n, out, at)
+    put_lines(&order, &numbers, n, out, at)
 }
 
 // The lines of the first n chunks of the order, from `at` on, and the place behind them.

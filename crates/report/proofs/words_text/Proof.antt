@@ -43,7 +43,10 @@ returns-2 c =
 
 -- the function's entry, where the heading is about to be written
 abbrev start : tie.After-put-heading-arg → tie.Start
-start c = c .before .before .before .before .before .before .before .before .before .before .before
+start c = c .before .before .before .before .before .before .before .before .before .before .before .before
+
+slice-aggregate-put-lines : tie.Need-slice-aggregate-put-lines
+slice-aggregate-put-lines c = search needs
 
 -- where the heading is written, the buffer is as long as before
 heading-room : (h : tie.After-put-heading) → sheetMost ≤ length (h .put-heading .last .0)
@@ -53,17 +56,18 @@ heading-room h =
 
 put-lines-requires : tie.Need-put-lines-requires
 put-lines-requires c κs =
-    let h = c .before .before .before .before .before .before .before in
-    let e = h .before .before in
+    let h = c .before .before .before .before .before in
+    let e = h .before .before .before in
     let f = e .before .before in
     rw (h .put-heading .ensures .1)
-    (lines-fit (accepted-words (f .before .before)) _ _ (f .sheet-of .ensures) (e .if1 .left) (omega arith) _ (heading-room h))
+    (lines-fit (accepted-words (f .before .before)) _ _ (f .sheet-of .ensures) (e .if1 .left)
+    (omega (arith, slice-aggregate-put-lines (c .before .before))) _ (heading-room h))
 
 returns-3 : tie.Need-returns-3
 returns-3 c =
     let p = c .before .before in
-    let h = p .before .before .before .before .before .before .before .before in
-    let e = h .before .before in
+    let h = p .before .before .before .before .before .before in
+    let e = h .before .before .before in
     let f = e .before .before in
     let k = kept (accepted-words (f .before .before)) _ _ (f .sheet-of .ensures) (e .if1 .left) in
     let out = start (h .before) .args .out .now in
@@ -75,5 +79,5 @@ pub words-text-spec : {M : Type 1} → statement M
 words-text-spec =
     tie.close
     (tie.spec (λ c κs. search needs) (λ c. search needs) (λ c κs. search needs) (λ c. search needs) returns (λ c. search needs) (λ c. search needs)
-    (λ c. search needs) sheet-of-requires (λ c κs. search needs) (λ c. search needs) returns-2 (λ c κs. search needs) (λ c. search needs)
-    put-lines-requires (λ c. search needs) returns-3)
+    (λ c. search needs) sheet-of-requires (λ c κs. search needs) (λ c. search needs) returns-2 (λ c κs. search needs) slice-aggregate-put-lines
+    (λ c. search needs) put-lines-requires (λ c. search needs) returns-3)
