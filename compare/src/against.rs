@@ -6,6 +6,7 @@ mod apart;
 #[path = "standin/bytecode.rs"]
 mod bytecode;
 mod case;
+mod classes;
 mod counts;
 mod document;
 mod every;
@@ -13,6 +14,7 @@ mod form;
 #[allow(dead_code)]
 mod kinds;
 mod limits;
+mod nesting;
 #[path = "standin/passes.rs"]
 mod passes;
 mod picks;

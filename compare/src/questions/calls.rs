@@ -2,7 +2,7 @@
 use super::{Asked, List};
 use crate::form::{self, Chunk, MOST_CHUNKS};
 use crate::kinds::*;
-use crate::limits::{self, Around};
+use crate::nesting::{Around, nested};
 use crate::pieces::{chunk, op, ops};
 use crate::refusals::*;
 use crate::typical;
@@ -134,7 +134,7 @@ fn refused_sheets(list: &mut List) {
         ("crossed", func(ops![BREAK_IF])),
         (
             "too deep",
-            limits::nested(257, &[Around::Arm, Around::Body], None),
+            nested(257, &[Around::Arm, Around::Body], None),
         ),
         ("open text", open),
     ];

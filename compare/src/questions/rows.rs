@@ -2,7 +2,7 @@
 use super::List;
 use crate::form::{self, Chunk, Op};
 use crate::kinds::*;
-use crate::limits::{self, Around};
+use crate::nesting::{Around, nested};
 use crate::pieces::{chunk, chunk_l, op, ops};
 use crate::refusals::*;
 
@@ -226,7 +226,7 @@ fn deep(list: &mut List) {
         list.func(&format!("{n} Ifs behind Return"), ifs(op(RETURN, 0, 0), n))
             .is(&[2, 1]);
     }
-    let loops = |n| [limits::nested(n, &[Around::Body], None)];
+    let loops = |n| [nested(n, &[Around::Body], None)];
     list.cycles("256 Loops", &loops(256), 0).is(&[512, 0]);
     for n in [257, 5_460] {
         list.cycles(&format!("{n} Loops"), &loops(n), 0)

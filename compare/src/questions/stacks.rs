@@ -2,7 +2,7 @@
 use super::{List, Question};
 use crate::form::{Chunk, Op, word};
 use crate::kinds::*;
-use crate::limits::{self, Around};
+use crate::nesting::{Around, nested};
 use crate::pieces::{chunk, chunk_l, op, ops};
 use crate::refusals::*;
 use crate::table::ENDS;
@@ -129,7 +129,7 @@ fn loops(list: &mut List) {
 }
 
 fn deepest(list: &mut List) {
-    let blocks = |n| [limits::nested(n, &[Around::Arm], None)];
+    let blocks = |n| [nested(n, &[Around::Arm], None)];
     list.stack("blocks 256", &blocks(256), 0, &[])
         .is(&[0, -1, 0]);
     list.stack("blocks 257", &blocks(257), 0, &[])

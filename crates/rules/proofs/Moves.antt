@@ -6,9 +6,10 @@ use Prim.Native.Nat.{ℕ, suc, _≤_}
 use lib.IntN.{ℤ}
 use Rattle.rules.specs.Ops.{opAt}
 use Rattle.rules.specs.Form.{Chunk}
-use Rattle.rules.specs.Rows.{Shape, plain, trap, returns, ifTo, elseTo, endIf, loopTo, endLoop, breaks, breaksIf, calls, Plain, Ending}
+use Rattle.rules.specs.Rows.{Shape, Plain, Ending}
 use Rattle.rules.specs.Order.{chunkAt}
 use Rattle.rules.specs.Paths.{Way, Entry, Frame, over, rangeAt, movedTo, settle, goBy}
+use Rattle.rules.proofs.Shapes.{by-plain, by-ending}
 
 -- a frame of chunk c before the op at i
 abbrev pub placed : ℕ → ℕ → ℤ → ℤ → List Entry → Frame
@@ -23,27 +24,7 @@ Inside cs c i to = (rangeAt cs c .from ≤ i) × (to ≤ rangeAt cs c .to)
 
 module _ (cs : List Chunk) where
   pub plain-goes : (s : Shape) → Plain s → (f : Frame) (w : Way) → goBy cs s false f [] w ≡ settle cs (movedTo cs (suc (f .at)) (f .entries) f) []
-  plain-goes plain p f w = refl
-  plain-goes trap p f w = absurd p
-  plain-goes returns p f w = absurd p
-  plain-goes (ifTo t) p f w = absurd p
-  plain-goes (elseTo t) p f w = absurd p
-  plain-goes endIf p f w = absurd p
-  plain-goes (loopTo t) p f w = absurd p
-  plain-goes endLoop p f w = absurd p
-  plain-goes breaks p f w = absurd p
-  plain-goes breaksIf p f w = absurd p
-  plain-goes (calls k) p f w = refl
+  plain-goes s p f w = by-plain (λ t. goBy cs t false f [] w ≡ settle cs (movedTo cs (suc (f .at)) (f .entries) f) []) refl (λ k. refl) s p
 
   pub ending-goes : (s : Shape) → Ending s → (f : Frame) (w : Way) → goBy cs s false f [] w ≡ over
-  ending-goes plain p f w = absurd p
-  ending-goes trap p f w = refl
-  ending-goes returns p f w = refl
-  ending-goes (ifTo t) p f w = absurd p
-  ending-goes (elseTo t) p f w = absurd p
-  ending-goes endIf p f w = absurd p
-  ending-goes (loopTo t) p f w = absurd p
-  ending-goes endLoop p f w = absurd p
-  ending-goes breaks p f w = absurd p
-  ending-goes breaksIf p f w = absurd p
-  ending-goes (calls k) p f w = absurd p
+  ending-goes s p f w = by-ending (λ t. goBy cs t false f [] w ≡ over) refl refl s p

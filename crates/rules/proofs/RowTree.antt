@@ -18,7 +18,7 @@ use Rattle.rules.specs.Rows.{Range, firstOf, orRefuse, rangeIf, rangeOf,
 use Rattle.rules.specs.Paths.{rangeFound}
 use Rattle.rules.proofs.Answers.{from-ok}
 use Rattle.rules.proofs.Flags.{both}
-use Rattle.rules.proofs.Shapes.{shape-tells, end-if-shape, end-loop-shape, else-shape}
+use Rattle.rules.proofs.Shapes.{shape-tells, end-if-shape, end-loop-shape, else-shape, by-plain, by-ending}
 
 -- what an answered tree tells of the test before it
 passed : (b : Bool) (next : ℕ → Parsed) (i : ℕ) {r : Row} → parsedIf b next i ≡ row r → (b ≡ true) × (next i ≡ row r)
@@ -176,30 +176,10 @@ parse-end (suc f) op l i to e = simp (le-ltb i to (omega arith))
 
 module _ (op : ℕ → ℕ) (rows : Bool → ℕ → ℕ → Parsed) (l : Bool) (i to : ℕ) where
   plain-op : (s : Shape) → Plain s → parseOp s op rows l i to ≡ onRow (rows l (suc i) to) (λ r. row (step i r))
-  plain-op plain h = refl
-  plain-op trap h = absurd h
-  plain-op returns h = absurd h
-  plain-op (ifTo t) h = absurd h
-  plain-op (elseTo t) h = absurd h
-  plain-op endIf h = absurd h
-  plain-op (loopTo t) h = absurd h
-  plain-op endLoop h = absurd h
-  plain-op breaks h = absurd h
-  plain-op breaksIf h = absurd h
-  plain-op (calls k) h = refl
+  plain-op s h = by-plain (λ t. parseOp t op rows l i to ≡ onRow (rows l (suc i) to) (λ r. row (step i r))) refl (λ k. refl) s h
 
   ending-op : (s : Shape) → Ending s → parseOp s op rows l i to ≡ onRow (rows l (suc i) to) (λ r. row (stop i r))
-  ending-op plain h = absurd h
-  ending-op trap h = refl
-  ending-op returns h = refl
-  ending-op (ifTo t) h = absurd h
-  ending-op (elseTo t) h = absurd h
-  ending-op endIf h = absurd h
-  ending-op (loopTo t) h = absurd h
-  ending-op endLoop h = absurd h
-  ending-op breaks h = absurd h
-  ending-op breaksIf h = absurd h
-  ending-op (calls k) h = absurd h
+  ending-op s h = by-ending (λ t. parseOp t op rows l i to ≡ onRow (rows l (suc i) to) (λ r. row (stop i r))) refl refl s h
 
   if-complete : (j t : ℕ) (p r : Row) → IsRow op l i to (ifThen j t p r) → rows l (suc i) t ≡ row p → rows l (suc t) to ≡ row r
       → parseOp (shapeOf (op i)) op rows l i to ≡ row (ifThen j t p r)

@@ -6,6 +6,7 @@ use lib.Dec.{eqb}
 use borrow.Author.Tests.{eqb-true}
 use Rattle.rules.specs.Ops.{kind, fieldA}
 use Rattle.rules.specs.Rows.{Shape, plain, trap, returns, ifTo, elseTo, endIf, loopTo, endLoop, breaks, breaksIf, calls, shapeOf}
+use Rattle.rules.specs.Rows.{Plain, Ending}
 
 -- the word's kind, and its field a where the shape holds a number
 abbrev pub Tells : ℕ → Shape → Type 0
@@ -47,3 +48,30 @@ module _ (w : ℕ) where
 
   pub else-shape : kind w ≡ 22 → shapeOf w ≡ elseTo (fieldA w)
   else-shape h = simp h
+
+-- A plain op is a Call or of no other shape; the ops that end a row are Trap and Return.
+pub by-plain : (P : Shape → Type 0) → P plain → ((k : ℕ) → P (calls k)) → (s : Shape) → Plain s → P s
+by-plain P p c plain h = p
+by-plain P p c trap h = absurd h
+by-plain P p c returns h = absurd h
+by-plain P p c (ifTo t) h = absurd h
+by-plain P p c (elseTo t) h = absurd h
+by-plain P p c endIf h = absurd h
+by-plain P p c (loopTo t) h = absurd h
+by-plain P p c endLoop h = absurd h
+by-plain P p c breaks h = absurd h
+by-plain P p c breaksIf h = absurd h
+by-plain P p c (calls k) h = c k
+
+pub by-ending : (P : Shape → Type 0) → P trap → P returns → (s : Shape) → Ending s → P s
+by-ending P t r plain h = absurd h
+by-ending P t r trap h = t
+by-ending P t r returns h = r
+by-ending P t r (ifTo u) h = absurd h
+by-ending P t r (elseTo u) h = absurd h
+by-ending P t r endIf h = absurd h
+by-ending P t r (loopTo u) h = absurd h
+by-ending P t r endLoop h = absurd h
+by-ending P t r breaks h = absurd h
+by-ending P t r breaksIf h = absurd h
+by-ending P t r (calls k) h = absurd h

@@ -7,9 +7,10 @@ use native.Mathlib.Omega.{arith}
 use lib.IntN.{ℤ, pos, _+ℤ_, +ℤ-idr}
 use lib.Signed.{leZ}
 use Rattle.rules.specs.Rows.{Shape, plain, trap, returns, ifTo, elseTo, endIf, loopTo, endLoop, breaks, breaksIf, calls, shapeOf}
-use Rattle.rules.specs.Rows.{Row, end, step, stop, leave, leaveIf, ifThen, ifElse, loop, Plain, Ending, IsRow}
+use Rattle.rules.specs.Rows.{Row, end, step, stop, leave, leaveIf, ifThen, ifElse, loop, IsRow}
 use Rattle.rules.specs.Stack.{atLeastZero}
 use Rattle.rules.specs.Paths.{Entry}
+use Rattle.rules.proofs.Shapes.{by-plain, by-ending}
 use Rattle.rules.proofs.SignedOrder.{le-at-most}
 use Rattle.rules.proofs.Covered.{Downward, Covered, covered-down}
 
@@ -140,33 +141,6 @@ module _ (op : ℕ → ℕ) (last top : ℕ) (rise move : ℕ → ℤ) where
         placed = p;
       }
 
-  -- plain ops and Calls, and the ops that end a row
-  plain-goes : (s : Shape) (i : ℕ) (x : ℤ) (es : List Entry) → Plain s → Standing (suc i) x es → GoesOn s i x es
-  plain-goes plain i x es h n = n
-  plain-goes trap i x es h n = absurd h
-  plain-goes returns i x es h n = absurd h
-  plain-goes (ifTo t) i x es h n = absurd h
-  plain-goes (elseTo e) i x es h n = absurd h
-  plain-goes endIf i x es h n = absurd h
-  plain-goes (loopTo t) i x es h n = absurd h
-  plain-goes endLoop i x es h n = absurd h
-  plain-goes breaks i x es h n = absurd h
-  plain-goes breaksIf i x es h n = absurd h
-  plain-goes (calls k) i x es h n = n
-
-  ending-goes : (s : Shape) (i : ℕ) (x : ℤ) (es : List Entry) → Ending s → GoesOn s i x es
-  ending-goes plain i x es h = absurd h
-  ending-goes trap i x es h = tt
-  ending-goes returns i x es h = tt
-  ending-goes (ifTo t) i x es h = absurd h
-  ending-goes (elseTo e) i x es h = absurd h
-  ending-goes endIf i x es h = absurd h
-  ending-goes (loopTo t) i x es h = absurd h
-  ending-goes endLoop i x es h = absurd h
-  ending-goes breaks i x es h = absurd h
-  ending-goes breaksIf i x es h = absurd h
-  ending-goes (calls k) i x es h = absurd h
-
   -- the op at i, taken at depth x
   abbrev Taken : ℕ → ℤ → List Entry → Type 0
   Taken i x es = (atLeastZero (x +ℤ rise i) ≤ top) × GoesOn (shapeOf (op i)) i (x +ℤ move i) es
@@ -196,9 +170,10 @@ module _ (op : ℕ → ℕ) (last top : ℕ) (rise move : ℕ → ℤ) where
     row-taken (step j r) k l i x es w before c p =
         let d = rw (w .0) at c in (
           d .0,
-          plain-goes (shapeOf (op i)) i (x +ℤ move i) es (w .2) (record { part = k; row = r; is = (l, w .3); covered = d .1; placed = p }),
+          let n : Standing (suc i) (x +ℤ move i) es = record { part = k; row = r; is = (l, w .3); covered = d .1; placed = p } in
+              by-plain (λ s. GoesOn s i (x +ℤ move i) es) n (λ c. n) (shapeOf (op i)) (w .2),
         )
-    row-taken (stop j r) k l i x es w before c p = (rw (w .0) at c, ending-goes (shapeOf (op i)) i (x +ℤ move i) es (w .2))
+    row-taken (stop j r) k l i x es w before c p = (rw (w .0) at c, by-ending (λ s. GoesOn s i (x +ℤ move i) es) tt tt (shapeOf (op i)) (w .2))
     row-taken (leave j r) k l i x es w before c p =
         let d = rw (w .0) at c in
         (d .0, rw (w .2) (breaks-out k es (x +ℤ move i) p (d .1)))
