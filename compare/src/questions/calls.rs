@@ -132,10 +132,7 @@ fn refused_sheets(list: &mut List) {
         ("no Reset", chunk(STREAMING, 0, &[], ops![DUP, STREAM])),
         ("backward", func(ops![LOOP 1, END_LOOP, ELSE 1])),
         ("crossed", func(ops![BREAK_IF])),
-        (
-            "too deep",
-            nested(257, &[Around::Arm, Around::Body], None),
-        ),
+        ("too deep", nested(257, &[Around::Arm, Around::Body], None)),
         ("open text", open),
     ];
     for (name, last) in refused {
