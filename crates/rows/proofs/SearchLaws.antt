@@ -28,13 +28,10 @@ module _ (k : ℕ) (ops : List ℕ) (i : ℕ) where
   first-none h = rw (drop-of-length-le ops h)
 
 module _ (n : ℕ) (ops : List ℕ) (i : ℕ) where
-  pub backward-here : i < length ops → isBackward n i (getD ops i 0) ≡ true → firstBackward n i (drop i ops) ≡ found i
+  pub backward-turn : i < length ops → {b : Bool} → isBackward n i (getD ops i 0) ≡ b
+      → firstBackward n i (drop i ops) ≡ cond b (found i) (firstBackward n (i + 1) (drop (i + 1) ops))
   unfolding firstBackward
-  backward-here h e = rw (drop-cons ops i 0) (simp e)
-
-  pub backward-later : i < length ops → isBackward n i (getD ops i 0) ≡ false → firstBackward n i (drop i ops) ≡ firstBackward n (i + 1) (drop (i + 1) ops)
-  unfolding firstBackward
-  backward-later h e = rw (add-one i, drop-cons ops i 0) (simp e)
+  backward-turn h e = rw (add-one i, drop-cons ops i 0, e)
 
   pub backward-none : length ops ≤ i → firstBackward n i (drop i ops) ≡ nothing
   unfolding firstBackward
@@ -44,8 +41,6 @@ module _ (n : ℕ) (ops : List ℕ) (i : ℕ) where
 pub first-within : (k : ℕ) (ops : List ℕ) (i j : ℕ) → firstOf k ops i ≡ found j → j < i + length ops
 unfolding firstOf
 first-within k [] i j e = absurd (let z : _≡_ {A = ℕ} 0 1 = cc in omega arith)
-first-within k (w ∷ ws) i j e = go (eqb (kind w) k) e (first-within k ws (suc i) j)
-  where
-    go : (b : Bool) → cond b (found i) (firstOf k ws (suc i)) ≡ found j → (firstOf k ws (suc i) ≡ found j → j < suc i + length ws) → j < i + suc (length ws)
-    go true f later = let z : i ≡ j = cc in omega arith
-    go false f later = omega (arith, later f)
+first-within k (w ∷ ws) i j e =
+    (elim (eqb (kind w) k) as (λ b. cond b (found i) (firstOf k ws (suc i)) ≡ found j → j < i + suc (length ws))
+    [ true ↦ λ f. let z : i ≡ j = cc in omega arith | false ↦ λ f. omega (arith, first-within k ws (suc i) j f) ]) e

@@ -1,6 +1,6 @@
 -- What the decision at the first op of a stretch says of its rows: how a row goes on behind the op, or that there is none.
 -- Assumes nothing.
-use mathlib.Core.Path.{_≡_, refl, sym, ap, _∙_, subst}
+use mathlib.Core.Path.{_≡_, refl, sym, ap, _∙_}
 use mathlib.Core.Bool.{Bool, true, false, cond, _&&_, _||_, and-eq-true-iff, true≢false}
 use mathlib.Core.Logic.{_⊎_, inl, inr, _↔_}
 use Prim.Native.Nat.{ℕ, suc, _-_, _<_, _≤_}
@@ -188,6 +188,3 @@ module _ (op : ℕ → ℕ) (l : Bool) (i b : ℕ) where
         far k n =
             (elim (ltb k 21) as (λ c. ltb k 21 ≡ c → c || ltb 27 k ≡ true)
             [ true ↦ λ _. refl | false ↦ λ e. let p = n (ltb-false k 21 e) in lt-ltb 27 k (omega arith) ]) refl
-
-    pub opened-at : (c : Bool) (e : ℕ) → opening c e ≡ opensAt op i b l → Opened c e
-    opened-at c e k = as-opened c e (subst Turn (sym k) turn)

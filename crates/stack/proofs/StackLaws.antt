@@ -17,8 +17,7 @@ use Rattle.rows.specs.Opens.{Behind, BreakAt, IfAt, ElseAt, LoopAt}
 use Rattle.rows.proofs.TreeLaws.{tree-empty}
 use Rattle.stack.specs.declared.level.Level.{Level}
 use Rattle.stack.specs.Levels.{chunkOf, effectAt, levelOver, markedAs, endsAt, lifted}
-use Rattle.stack.specs.Steps.{regionHeight, levelHeight, bodyHeight, liftedBy, partHeight, stepResult}
-use Rattle.stack.specs.Steps.{ifTail, armsTail, elseTail, loopTail, goesOn, joined}
+use Rattle.stack.specs.Steps.{regionHeight, levelHeight, bodyHeight, liftedBy, partHeight, stepResult, ifTail, armsTail, elseTail, loopTail, goesOn, joined}
 
 -- what follows a part follows it as the row around it sees it
 lift-then : (d : ℤ) (r : Result R.Height) (f : R.Height → Result R.Height) → andThen (liftedBy d r) f ≡ andThen r (λ h. f (lifted d h))
