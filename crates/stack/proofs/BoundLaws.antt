@@ -59,14 +59,7 @@ module _ (ops : List ℕ) (i f to : ℕ) (l : Level) (lt : i < f) (within : f < 
       go R.ends e = λ b s. let p = parts b s in record { peak = omega arith; delta = tt }
 
   -- behind a loop that closes at f
-  raised-small : (peak b : ℕ) → peak ≤ b + 65536 * (f - suc i) + 134217728 → Small l b → Small (raisedTo l peak) (b + 65536 * (suc f - suc i))
-  raised-small peak b h s = record { offset = omega arith; peak = omega arith }
-
-  pub raised-onward : (peak : ℕ) → ((b : ℕ) → Small l b → peak ≤ b + 65536 * (f - suc i) + 134217728)
-      → Onward ops i (suc i) to l (Goes (suc f) (raisedTo l peak))
-  raised-onward peak most = (omega arith, within, rest, λ b s. raised-small peak b (most b s) s)
-
   pub once-onward : (peak : ℕ) (met : Bool) → ((b : ℕ) → Small l b → peak ≤ b + 65536 * (f - suc i) + 134217728)
       → Onward ops i (suc i) to l (passedOnce f (raisedTo l peak) met)
-  once-onward peak true most = raised-onward peak most
+  once-onward peak true most = (omega arith, within, rest, λ b s. let h = most b s in record { offset = omega arith; peak = omega arith })
   once-onward peak false most = λ b s. let h = most b s in record { peak = omega arith; delta = tt }

@@ -70,7 +70,7 @@ module _ {constants ops callees : List ℕ} {from to left : ℕ} {broken : Bool}
 -- A part of a row, begun at a level.
 module _ (constants callees : List ℕ) (left : ℕ) {ops : List ℕ} {from to : ℕ} {l : Level} (f : PartFits ops from to l) where
   pub part-deepest : left ≡ 0 → PartMeans constants ops callees from to left l (W.the-variants.Refused 7 0)
-  part-deepest e = (L.part-none (chunkOf 0 constants ops) callees from to (l .offset) (l .broken) left e, λ b h. tt)
+  part-deepest e = (rw e, λ b h. tt)
 
   module _ (deep : left ≡ 0 → ⊥) (w : W.Walk) (m : RegionMeans constants ops callees from to (left - 1) (l .broken) w) where
     pub part-refused : {n p : ℕ} → w ≡ W.the-variants.Refused n p → PartMeans constants ops callees from to left l (W.the-variants.Refused n p)

@@ -7,6 +7,7 @@ use Prim.Native.Nat.{ℕ, suc, _+_, _*_}
 use native.Mathlib.Numerals.{add-one}
 use native.Mathlib.Omega.{arith}
 use Rattle.rules.specs.Ops.{opAt}
+use Rattle.rules.specs.Stack.{rowHeight}
 use Rattle.rows.specs.Tree.{HasRow}
 use Rattle.rows.specs.Opens.{Opens, StepFits, IfFits, ElseFits, LoopFits}
 use Rattle.rows.specs.declared.block.Block.{Block}
@@ -72,24 +73,28 @@ module _ {ops callees : List ℕ} {i to : ℕ} {l m : Level} (a : Over ops calle
         (n .0 ∙ rw (a .is) (L.behind-loop constants ops callees i to left l _ o), onward r (n .1))
 
     pub step-ends : (r : Step) → k ≡ B.Ends → r ≡ endedAt (m .peak .0) (m .broken) → StepMeans constants ops callees i to left l r
+    unfolding rowHeight
     step-ends r e is =
         let o = rw e at opens in
-        rw is (rw (a .is) (L.behind-stop constants ops callees i to left l o), onward (endedAt (m .peak .0) (m .broken)) (ending (m .broken)))
+        rw is (rw (a .is, o .tree), onward (endedAt (m .peak .0) (m .broken)) (ending (m .broken)))
 
     pub step-break : (r : Step) → k ≡ Break → r ≡ endedAt (m .peak .0) true → StepMeans constants ops callees i to left l r
+    unfolding rowHeight
     step-break r e is =
         let o = rw e at opens in
-        rw is (rw (a .is) (L.behind-break constants ops callees i to left l o), onward (endedAt (m .peak .0) true) (ending true))
+        rw is (rw (a .is, o .behind .tree), onward (endedAt (m .peak .0) true) (ending true))
 
     pub step-break-if : (n : Level) → k ≡ BreakIf → n ≡ markedAs m true → StepMeans constants ops callees i to left l (Goes (i + 1) n)
+    unfolding rowHeight
     step-break-if n e is =
         let o = rw e at opens in
         rw (add-one i, is) (
-          rw (a .is) (L.behind-break-if constants ops callees i to left l o),
+          rw (a .is, o .behind .tree),
           onward (Goes (suc i) (markedAs m true)) (next (markedAs m true) (λ b z. record { offset = z .offset; peak = z .peak }) (o .behind .rest)),
         )
 
     pub step-plain : k ≡ Plain → StepMeans constants ops callees i to left l (Goes (i + 1) m)
+    unfolding rowHeight
     step-plain e =
         let o = rw e at opens in
-        rw (add-one i) (rw (a .is) (L.behind-plain constants ops callees i to left l o), onward (Goes (suc i) m) (next m (λ b z. z) (o .rest)))
+        rw (add-one i) (rw (a .is, o .tree), onward (Goes (suc i) m) (next m (λ b z. z) (o .rest)))

@@ -5,7 +5,7 @@ use Prim.Native.Nat.{_≤_}
 use native.Mathlib.Omega.{arith}
 use Rattle.rules.specs.Ops.{fieldA}
 use Rattle.rules.specs.Stack.{calleeSlots}
-use Rattle.stack.proofs.LevelLaws.{rise-fits, rise-small, rise-one, rise-own}
+use Rattle.stack.proofs.LevelLaws.{rise-fits, rise-small, rise-is}
 use borrow.Author.Needs.{needs}
 use Rattle.stack.proofs.level.call_rise.Statement.{statement}
 use Rattle.stack.proofs.level.call_rise.Tie as tie
@@ -27,13 +27,13 @@ returns : tie.Need-returns
 returns c =
     let a = c .before .before .before .before .before .args in
     let s = slots (c .before .before) in
-    (rise-one (a .callees .now) (a .w) _ (s .0) (s .1) (c .if1 .taken), omega arith)
+    (rise-is (a .callees .now) (a .w) _ (s .0) (s .1) (c .if1 .taken), omega arith)
 
 returns-2 : tie.Need-returns-2
 returns-2 c =
     let a = c .before .before .before .before .before .args in
     let s = slots (c .before .before) in
-    let e = rise-own (a .callees .now) (a .w) _ (s .0) (s .1) (c .if1 .left) in
+    let e = rise-is (a .callees .now) (a .w) _ (s .0) (s .1) (c .if1 .left) in
     (e, rw e (rise-small (a .callees .now) (a .w) _ (s .0) (s .1)))
 
 pub call-rise-spec : {M : Type 1} → statement M

@@ -8,8 +8,7 @@ use Rattle.rows.proofs.FitLaws.{if-within, if-arm, else-within, then-arm, else-
 use Rattle.stack.specs.Steps.{StepMeans}
 use Rattle.stack.proofs.RowLaws.{Rest, rest-start, rest-small, rest-fits, rest-end, rest-forward, rest-goes, rest-ends, rest-refused}
 use Rattle.stack.proofs.RowLaws.{part-deepest, part-refused, lift-fits, part-done}
-use Rattle.stack.proofs.BlockLaws.{block-part, if-refused, if-joins, else-refused, else-refused-second, else-joins}
-use Rattle.stack.proofs.BlockLaws.{loop-refused, loop-once, loop-uncounted, loop-goes}
+use Rattle.stack.proofs.BlockLaws.{block-part, block-refused, if-joins, else-refused-second, else-joins, loop-once, loop-uncounted, loop-goes}
 use Rattle.stack.proofs.StepLaws.{Over, over-fits, over, behind-small}
 use Rattle.stack.proofs.StepLaws.{step-if, step-else, step-loop, step-ends, step-break, step-break-if, step-plain}
 use Prim.Native.Nat.{ℕ, _<_, _+_, _-_, _*_}
@@ -148,7 +147,7 @@ wcmu-else-returns t c to h =
     let f = c .before in
     let w = f .before .before in
     let a = w .before .before .before .before .args in
-    else-refused h (a .behind) (a .constants .now) (a .callees .now) (a .left) _ (w .wcmu-subregion .ensures) (f .first2 .given .1)
+    block-refused (a .constants .now) (a .ops .now) (a .callees .now) (a .i) (a .e) (a .left) (a .behind) to _ refl (f .first2 .given .1) (w .wcmu-subregion .ensures)
 
 wcmu-else-wcmu-subregion-requires-2 : wcmu-else-need wcmu-else-lts.Need-wcmu-subregion-requires-2
 wcmu-else-wcmu-subregion-requires-2 t c κs =
@@ -201,7 +200,7 @@ wcmu-if-returns t c to h =
     let f = c .before in
     let w = f .before .before in
     let a = w .before .before .before .before .args in
-    if-refused h (a .behind) (a .constants .now) (a .callees .now) (a .left) _ (w .wcmu-subregion .ensures) (f .part2 .given .1)
+    block-refused (a .constants .now) (a .ops .now) (a .callees .now) (a .i) (a .t) (a .left) (a .behind) to _ refl (f .part2 .given .1) (w .wcmu-subregion .ensures)
 
 wcmu-if-join-arms-requires : wcmu-if-need wcmu-if-lts.Need-join-arms-requires
 wcmu-if-join-arms-requires t c κs =
@@ -247,8 +246,8 @@ wcmu-loop-returns t c to h =
     let f = c .before in
     let w = f .before .before in
     let a = w .before .before .before .before .before .args in
-    loop-refused h (a .behind) (a .constants .now) (a .callees .now) (a .left) (w .before .marked .ensures) _ (w .wcmu-subregion .ensures)
-    (f .part2 .given .1)
+    block-refused (a .constants .now) (a .ops .now) (a .callees .now) (a .i) (a .e) (a .left) (a .behind) to _ (w .before .marked .ensures)
+    (f .part2 .given .1) (w .wcmu-subregion .ensures)
 
 wcmu-loop-passed-once-requires : wcmu-loop-need wcmu-loop-lts.Need-passed-once-requires
 wcmu-loop-passed-once-requires t c κs =
