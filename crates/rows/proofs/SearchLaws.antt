@@ -6,7 +6,6 @@ use mathlib.Core.List.{List, [], _∷_}
 use Prim.Native.Nat.{ℕ, suc, _+_, _<_, _≤_}
 use native.Mathlib.Numerals.{add-one}
 use native.Mathlib.Omega.{arith}
-use borrow.Author.Tests.{eq-eqb, ne-eqb}
 use lib.Dec.{eqb}
 use lib.ListN.{length, getD, drop, drop-of-length-le}
 use lib.Seq.{drop-cons}
@@ -15,13 +14,10 @@ use Rattle.rules.specs.Ops.{kind}
 use Rattle.rules.specs.Rows.{firstOf, isBackward, firstBackward}
 
 module _ (k : ℕ) (ops : List ℕ) (i : ℕ) where
-  pub first-here : i < length ops → kind (getD ops i 0) ≡ k → firstOf k (drop i ops) i ≡ found i
+  pub first-turn : i < length ops → {b : Bool} → eqb (kind (getD ops i 0)) k ≡ b
+      → firstOf k (drop i ops) i ≡ cond b (found i) (firstOf k (drop (i + 1) ops) (i + 1))
   unfolding firstOf
-  first-here h e = rw (drop-cons ops i 0) (simp (eq-eqb _ k e))
-
-  pub first-later : i < length ops → (kind (getD ops i 0) ≡ k → ⊥) → firstOf k (drop i ops) i ≡ firstOf k (drop (i + 1) ops) (i + 1)
-  unfolding firstOf
-  first-later h e = rw (add-one i, drop-cons ops i 0) (simp (ne-eqb _ k e))
+  first-turn h e = rw (add-one i, drop-cons ops i 0, e)
 
   pub first-none : length ops ≤ i → firstOf k (drop i ops) i ≡ nothing
   unfolding firstOf

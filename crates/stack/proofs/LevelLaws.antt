@@ -26,9 +26,6 @@ module _ (callees : List ℕ) (w slots : ℕ) (few : slots ≤ 134217727) (are :
   abbrev riseRead : ℤ
   riseRead = toZ w64 slots -ℤ toZ w64 (fieldB w)
 
-  pub rise-fits : SFits w64 riseRead
-  rise-fits = difference-fits slots (fieldB w) (omega arith)
-
   pub rise-small : natAbs (callRise callees w) ≤ 134217727
   rise-small =
       rw (← are)
@@ -85,28 +82,20 @@ module _ (ops callees : List ℕ) (i g s : ℕ) (within : i < length ops) where
     pub shift-fits : SFits w64 shiftRead
     shift-fits = difference-fits g s (omega (arith, few))
 
-    shift-is : back shiftRead ≡ pos g -ℤ pos s
-    shift-is = difference-back g s (omega (arith, few))
+    abbrev Effected : ℤ → Type 0
+    Effected r = (_≡_ {A = Effect} (record { rise = r; shift = back shiftRead }) (effectAt ops callees i)) × SmallEffect (record { rise = r; shift = back shiftRead })
 
-    shift-small : natAbs (pos g -ℤ pos s) ≤ 65536
-    shift-small = omega (arith, few, difference-near g s)
-
-    effect-is : _≡_ {A = Effect} (record { rise = cond (eqb (kind here) 30) (callRise callees here) (pos g); shift = pos g -ℤ pos s }) (effectAt ops callees i)
-    effect-is = rw (grows, shrinks, read-op ops i within)
-
-    pub effect-call : (r : ℤ) → kind here ≡ 30 → r ≡ callRise callees here → natAbs r ≤ 134217727
-        → (_≡_ {A = Effect} (record { rise = back r; shift = back shiftRead }) (effectAt ops callees i))
-        × SmallEffect (record { rise = back r; shift = back shiftRead })
-    effect-call r k e n =
+    effect-is : (r : ℤ) → r ≡ cond (eqb (kind here) 30) (callRise callees here) (pos g) → natAbs r ≤ 134217727 → Effected (back r)
+    effect-is r e n =
         let b = near-back r (omega arith) in
-        (rw (← effect-is, shift-is, b, k, e), rw (shift-is, b) (record { rise = n; shift = shift-small }))
+        let d = difference-back g s (omega (arith, few)) in
+        (rw (b, d, e, grows, shrinks, read-op ops i within), rw (b, d) (record { rise = n; shift = omega (arith, few, difference-near g s) }))
 
-    pub effect-plain : (kind here ≡ 30 → ⊥)
-        → (_≡_ {A = Effect} (record { rise = toZ w64 g; shift = back shiftRead }) (effectAt ops callees i))
-        × SmallEffect (record { rise = toZ w64 g; shift = back shiftRead })
-    effect-plain k =
-        let b = near-back (pos g) (omega (arith, few)) in
-        (rw (← effect-is, shift-is, b, ne-eqb (kind here) 30 k), rw (shift-is, b) (record { rise = omega (arith, few); shift = shift-small }))
+    pub effect-call : (r : ℤ) → kind here ≡ 30 → r ≡ callRise callees here → natAbs r ≤ 134217727 → Effected (back r)
+    effect-call r k e n = effect-is r (rw k e) n
+
+    pub effect-plain : (kind here ≡ 30 → ⊥) → Effected (toZ w64 g)
+    effect-plain k = effect-is (pos g) (simp (ne-eqb (kind here) 30 k)) (omega (arith, few))
 
 -- the level behind an op
 module _ (l : Level) (e : Effect) (s : Small l 1073741824) (t : SmallEffect e) where

@@ -423,46 +423,46 @@ wcmu-step-wcmu-loop-requires t c κs =
 wcmu-step-returns : wcmu-step-need wcmu-step-lts.Need-returns
 wcmu-step-returns t c to h =
     let k = c .before .before in
-    step-plain (wcmu-step-over t (k .before .before) to h) _ _ (k .block-at .ensures to h) (c .enum-told .given .1)
+    step-plain (wcmu-step-over t (k .before .before) to h) _ _ (rw (c .enum-told .given .1) at (k .block-at .ensures to h))
 
 wcmu-step-returns-2 : wcmu-step-need wcmu-step-lts.Need-returns-2
 wcmu-step-returns-2 t c to h =
     let e = c .before in
     let k = e .before .before in
-    step-ends (wcmu-step-over t (k .before .before) to h) _ _ (k .block-at .ensures to h) _ (e .enum-told2 .given .1) (c .ended .ensures)
+    step-ends (wcmu-step-over t (k .before .before) to h) _ _ (rw (e .enum-told2 .given .1) at (k .block-at .ensures to h)) _ (c .ended .ensures)
 
 wcmu-step-returns-3 : wcmu-step-need wcmu-step-lts.Need-returns-3
 wcmu-step-returns-3 t c to h =
     let e = c .before in
     let k = e .before .before in
-    step-break (wcmu-step-over t (k .before .before) to h) _ _ (k .block-at .ensures to h) _ (e .enum-told3 .given .1) (c .ended2 .ensures)
+    step-break (wcmu-step-over t (k .before .before) to h) _ _ (rw (e .enum-told3 .given .1) at (k .block-at .ensures to h)) _ (c .ended2 .ensures)
 
 wcmu-step-returns-4 : wcmu-step-need wcmu-step-lts.Need-returns-4
 wcmu-step-returns-4 t c to h =
     let e = c .before in
     let k = e .before .before in
-    step-break-if (wcmu-step-over t (k .before .before) to h) _ _ (k .block-at .ensures to h) _ (e .enum-told4 .given .1) (c .marked .ensures)
+    step-break-if (wcmu-step-over t (k .before .before) to h) _ _ (rw (e .enum-told4 .given .1) at (k .block-at .ensures to h)) _ (c .marked .ensures)
 
 wcmu-step-returns-5 : wcmu-step-need wcmu-step-lts.Need-returns-5
 wcmu-step-returns-5 t c to h =
     let f = c .before .before in
     let k = f .before .before in
-    step-if (wcmu-step-over t (k .before .before) to h) _ _ (k .block-at .ensures to h)
-    (c .wcmu-if .result) (f .block .given .1) (c .wcmu-if .ensures)
+    step-if (wcmu-step-over t (k .before .before) to h) _ _ (rw (f .block .given .1) at (k .block-at .ensures to h))
+    (c .wcmu-if .result) (c .wcmu-if .ensures)
 
 wcmu-step-returns-6 : wcmu-step-need wcmu-step-lts.Need-returns-6
 wcmu-step-returns-6 t c to h =
     let f = c .before .before in
     let k = f .before .before in
-    step-else (wcmu-step-over t (k .before .before) to h) _ _ (k .block-at .ensures to h)
-    (c .wcmu-else .result) (f .block2 .given .1) (c .wcmu-else .ensures)
+    step-else (wcmu-step-over t (k .before .before) to h) _ _ (rw (f .block2 .given .1) at (k .block-at .ensures to h))
+    (c .wcmu-else .result) (c .wcmu-else .ensures)
 
 wcmu-step-returns-7 : wcmu-step-need wcmu-step-lts.Need-returns-7
 wcmu-step-returns-7 t c to h =
     let f = c .before .before in
     let k = f .before .before in
-    step-loop (wcmu-step-over t (k .before .before) to h) _ _ (k .block-at .ensures to h)
-    (c .wcmu-loop .result) (f .block3 .given .1) (c .wcmu-loop .ensures)
+    step-loop (wcmu-step-over t (k .before .before) to h) _ _ (rw (f .block3 .given .1) at (k .block-at .ensures to h))
+    (c .wcmu-loop .result) (c .wcmu-loop .ensures)
 
 -- what the callees of `wcmu-subregion` ask and give, and what a need of it is
 abbrev wcmu-subregion-calls : ℕ → wcmu-subregion-lts.Claims
