@@ -6,7 +6,7 @@ use mathlib.Core.List.{List, [], _∷_}
 use mathlib.Core.Logic.{_↔_}
 use Prim.Native.Nat.{ℕ, zero, suc, _+_, _-_, _<_, _≤_}
 use native.Mathlib.Omega.{arith}
-use borrow.Author.Tests.{lt-ltb, ne-eqb}
+use borrow.Author.Tests.{lt-ltb, eq-eqb, ne-eqb}
 use lib.Dec.{eqb, ltb}
 use lib.ListN.{length, getD, set}
 use lib.Seq.{getD-set-same, getD-set-other}
@@ -136,10 +136,9 @@ module _ (op : ℕ → ℕ) (from to : ℕ) where
     pub else-turn : kind (op e) ≡ 22 → Stage (fieldA (op e) ∷ es) loops (suc e)
     else-turn k =
         let f = s .nested .1 k in
-        let x : eqb (kind (op e)) 22 ≡ true = simp k in
+        let x = eq-eqb (kind (op e)) 22 k in
         let y : eqb (kind (op (fieldA (op e)))) 22 ≡ false = simp (f .closed) in
-        let z : eqb (kind (op (fieldA (op e)))) 25 ≡ false = simp (f .closed) in
-        let l = in-cons (fieldA (op e)) es false z in
+        let l = in-cons (fieldA (op e)) es false (simp (f .closed)) in
         record {
           low = omega (arith, s .low);
           within = f .behind;

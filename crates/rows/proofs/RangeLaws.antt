@@ -26,17 +26,10 @@ use Rattle.rows.proofs.SearchLaws.{first-within}
 abbrev stretch : ℕ → ℕ → Range
 stretch a b = record { from = a; to = b }
 
--- a Stream chunk
-module _ (mode : ℕ) (ops : List ℕ) (stream : mode ≡ K.StreamType) where
-  pub no-stream : nothing ≡ firstOf K.Stream ops 0 → no N.noStream 0 ≡ rangeBy mode ops
-  no-stream a = simp (eq-eqb mode K.StreamType stream, ← a)
-
-  module _ (s : ℕ) (a : found s ≡ firstOf K.Stream ops 0) where
-    pub no-reset : nothing ≡ firstOf K.Reset ops 0 → no N.noReset 0 ≡ rangeBy mode ops
-    no-reset b = simp (eq-eqb mode K.StreamType stream, ← a, ← b)
-
-    pub positions : (r to : ℕ) → found r ≡ firstOf K.Reset ops 0 → max (suc s) r ≡ to → ok (stretch (s + 1) to) ≡ rangeBy mode ops
-    positions r to b e = simp (eq-eqb mode K.StreamType stream, ← a, ← b, ← e, add-one)
+-- a Stream chunk with a Stream and a Reset
+pub positions : (mode : ℕ) (ops : List ℕ) → mode ≡ K.StreamType → (s : ℕ) → found s ≡ firstOf K.Stream ops 0 → (r to : ℕ) → found r ≡ firstOf K.Reset ops 0
+    → max (suc s) r ≡ to → ok (stretch (s + 1) to) ≡ rangeBy mode ops
+positions mode ops stream s a r to b e = simp (eq-eqb mode K.StreamType stream, ← a, ← b, ← e, add-one)
 
 -- the range lies in the list
 range-within : (stream : Bool) (ops : List ℕ) (g : Range) → rangeIf stream ops ≡ ok g → (g .from ≤ g .to) × (g .to ≤ length ops)
@@ -54,15 +47,9 @@ range-within false ops g e = let y : g .from ≡ 0 = cc in let z : g .to ≡ len
 
 -- the tests in their order
 module _ (mode : ℕ) (ops : List ℕ) where
-  pub no-range : (n : ℕ) → no n 0 ≡ rangeBy mode ops → no n 0 ≡ rangeRow mode ops
-  no-range n e = rw (← e)
-
   module _ (g : Range) (range : ok g ≡ rangeBy mode ops) where
     pub range-inside : (g .from ≤ g .to) × (g .to ≤ length ops)
     range-inside = range-within (eqb mode K.StreamType) ops g (sym range)
-
-    pub target-backward : (i : ℕ) → found i ≡ firstBackward (length ops) 0 ops → no N.backward i ≡ rangeRow mode ops
-    target-backward i e = rw (← range, ← e)
 
     pub range-decided : nothing ≡ firstBackward (length ops) 0 ops → (b : Bool) → b ≡ isRow (parse (g .to - g .from) (opAt ops) false (g .from) (g .to))
         → cond b (ok g) (no N.crossed 0) ≡ rangeRow mode ops

@@ -57,8 +57,7 @@ module _ (op : ℕ → ℕ) (l : Bool) (i b : ℕ) where
   Turn Crossed = HasRow op l i b → ⊥
 
   pub as-opened : (c : Bool) (e : ℕ) → Turn (opening c e) → Opened c e
-  as-opened true e t = t
-  as-opened false e t = t
+  as-opened c e = elim c as (λ c. Turn (opening c e) → Opened c e) [ true ↦ λ t. t | false ↦ λ t. t ]
 
   -- the part ends at an EndIf or at an EndLoop
   closed-at : (c : Bool) (e : ℕ) → i < e → e < b → eqb (kind (op e)) 25 ≡ c → eqb (kind (op e)) 22 ≡ false

@@ -6,7 +6,6 @@ use mathlib.Core.List.{List}
 use Prim.Native.Nat.{ℕ, suc, _+_, _*_, _<_, _≤_, max}
 use native.Mathlib.Numerals.{add-one}
 use native.Mathlib.Omega.{arith}
-use Rattle.rules.specs.Outcome.{Result, andThen}
 use Rattle.rules.specs.Reading.{constantsOf}
 use Rattle.rules.specs.Count.{countAt, countOf}
 use Rattle.rules.specs.Stack as R
@@ -21,7 +20,7 @@ use Rattle.stack.specs.declared.region.Walk as W
 use Rattle.stack.specs.declared.region.Step.{Step}
 use Rattle.stack.specs.declared.region.Step.the-variants.{Goes, Refused}
 use Rattle.stack.specs.Levels.{chunkOf, raisedTo, markedAs, heightOf, endsAt, Small}
-use Rattle.stack.specs.Steps.{PartFits, PartMeans, Onward, Means, IfMeans, ElseMeans, LoopMeans, regionHeight, partHeight, stepResult, joined, passedOnce}
+use Rattle.stack.specs.Steps.{PartFits, PartMeans, Onward, IfMeans, ElseMeans, LoopMeans, regionHeight, stepResult, joined, passedOnce}
 use Rattle.stack.proofs.BoundLaws.{height-more, ends-small, joined-onward, once-onward}
 use Rattle.stack.proofs.StackLaws as L
 
@@ -30,17 +29,10 @@ pub block-part : {ops : List ℕ} {i from end : ℕ} {l m : Level} {broken : Boo
     → i < from → from ≤ end → PartFits ops from end m
 block-part r s same lt le = rw same (record { ordered = le; row = r; small = record { offset = omega arith; peak = omega arith } })
 
-module _ (constants ops callees : List ℕ) (i end left : ℕ) (l : Level) where
-  -- the walk of a part behind the op at i that ends at `end`, with its answer
-  walked-as : {m : Level} {broken : Bool} {r x : W.Walk} → m ≡ markedAs l broken → r ≡ x → PartMeans constants ops callees (i + 1) end left m r
-      → PartMeans constants ops callees (suc i) end left (markedAs l broken) x
-  walked-as same e w = rw (same, e, add-one i) at w
-
-  -- a block whose first part is refused
-  pub block-refused : (to : ℕ) {m : Level} {broken : Bool} {r : W.Walk} {n p : ℕ} (next : R.Height → Result R.Height) → m ≡ markedAs l broken
-      → r ≡ W.the-variants.Refused n p → PartMeans constants ops callees (i + 1) end left m r
-      → Means constants ops callees i (suc i) to left l (andThen (partHeight (chunkOf 0 constants ops) callees (suc i) end left (l .offset) broken) next) (Refused n p)
-  block-refused to next same e w = let z = walked-as same e w in (rw (← z .0), tt)
+-- the walk of a part behind the op at i that ends at `end`, with its answer
+pub walked-as : (constants ops callees : List ℕ) (i end left : ℕ) (l : Level) {m : Level} {broken : Bool} {r x : W.Walk} → m ≡ markedAs l broken → r ≡ x
+    → PartMeans constants ops callees (i + 1) end left m r → PartMeans constants ops callees (suc i) end left (markedAs l broken) x
+walked-as constants ops callees i end left l same e w = rw (same, e, add-one i) at w
 
 -- an If at i with EndIf at t
 pub if-joins : {ops : List ℕ} {i t to : ℕ} → IfFits ops i t to → (l : Level) (constants callees : List ℕ) (left : ℕ) (r : W.Walk)

@@ -13,9 +13,8 @@ use Rattle.rules.specs.Count.{countOf}
 use Rattle.rules.specs.Stack as R
 use Rattle.rules.specs.Stack.{rowHeight}
 use Rattle.rows.specs.Opens.{IfAt, ElseAt, LoopAt}
-use Rattle.rows.proofs.TreeLaws.{tree-empty}
 use Rattle.stack.specs.declared.level.Level.{Level}
-use Rattle.stack.specs.Levels.{chunkOf, effectAt, levelOver, endsAt, lifted}
+use Rattle.stack.specs.Levels.{chunkOf, effectAt, levelOver, lifted}
 use Rattle.stack.specs.Steps.{regionHeight, levelHeight, bodyHeight, liftedBy, partHeight, stepResult, ifTail, armsTail, elseTail, loopTail, goesOn, joined}
 
 -- what follows a part follows it as the row around it sees it
@@ -33,11 +32,6 @@ part-some c callees from to d broken (suc l) h = rw sub-one
 module _ (constants ops callees : List ℕ) where
   abbrev C : Chunk
   C = chunkOf 0 constants ops
-
-  -- an empty stretch
-  pub region-end : (i to left : ℕ) (l : Level) → i ≡ to → ok (endsAt l) ≡ levelHeight C callees i to left l
-  unfolding rowHeight
-  region-end i to left l e = rw (e, tree-empty (opAt ops) to)
 
   -- behind the op at i
   module _ (i to left : ℕ) (l : Level) where

@@ -6,9 +6,9 @@ use borrow.Author.Needs.{needs}
 use Rattle.rows.specs.Opens.{StepFits}
 use Rattle.rows.proofs.FitLaws.{if-within, if-arm, else-within, then-arm, else-arm, loop-within, loop-body}
 use Rattle.stack.specs.Steps.{StepMeans}
-use Rattle.stack.proofs.RowLaws.{Rest, rest-start, rest-small, rest-fits, rest-end, rest-forward, rest-goes, rest-ends, rest-refused}
+use Rattle.stack.proofs.RowLaws.{Rest, rest-start, rest-small, rest-fits, rest-end, rest-goes, rest-ends, rest-refused}
 use Rattle.stack.proofs.RowLaws.{part-deepest, part-refused, lift-fits, part-done}
-use Rattle.stack.proofs.BlockLaws.{block-part, block-refused, if-joins, else-refused-second, else-joins, loop-once, loop-uncounted, loop-goes}
+use Rattle.stack.proofs.BlockLaws.{block-part, walked-as, if-joins, else-refused-second, else-joins, loop-once, loop-uncounted, loop-goes}
 use Rattle.stack.proofs.StepLaws.{Over, over-fits, over, behind-small}
 use Rattle.stack.proofs.StepLaws.{step-if, step-else, step-loop, step-ends, step-break, step-break-if, step-plain}
 use Prim.Native.Nat.{ℕ, _<_, _+_, _-_, _*_}
@@ -147,7 +147,7 @@ wcmu-else-returns t c to h =
     let f = c .before in
     let w = f .before .before in
     let a = w .before .before .before .before .args in
-    block-refused (a .constants .now) (a .ops .now) (a .callees .now) (a .i) (a .e) (a .left) (a .behind) to _ refl (f .first2 .given .1) (w .wcmu-subregion .ensures)
+    (rw (← walked-as (a .constants .now) (a .ops .now) (a .callees .now) (a .i) (a .e) (a .left) (a .behind) refl (f .first2 .given .1) (w .wcmu-subregion .ensures) .0), tt)
 
 wcmu-else-wcmu-subregion-requires-2 : wcmu-else-need wcmu-else-lts.Need-wcmu-subregion-requires-2
 wcmu-else-wcmu-subregion-requires-2 t c κs =
@@ -200,7 +200,7 @@ wcmu-if-returns t c to h =
     let f = c .before in
     let w = f .before .before in
     let a = w .before .before .before .before .args in
-    block-refused (a .constants .now) (a .ops .now) (a .callees .now) (a .i) (a .t) (a .left) (a .behind) to _ refl (f .part2 .given .1) (w .wcmu-subregion .ensures)
+    (rw (← walked-as (a .constants .now) (a .ops .now) (a .callees .now) (a .i) (a .t) (a .left) (a .behind) refl (f .part2 .given .1) (w .wcmu-subregion .ensures) .0), tt)
 
 wcmu-if-join-arms-requires : wcmu-if-need wcmu-if-lts.Need-join-arms-requires
 wcmu-if-join-arms-requires t c κs =
@@ -245,9 +245,11 @@ wcmu-loop-returns : wcmu-loop-need wcmu-loop-lts.Need-returns
 wcmu-loop-returns t c to h =
     let f = c .before in
     let w = f .before .before in
-    let a = w .before .before .before .before .before .args in
-    block-refused (a .constants .now) (a .ops .now) (a .callees .now) (a .i) (a .e) (a .left) (a .behind) to _ (w .before .marked .ensures)
-    (f .part2 .given .1) (w .wcmu-subregion .ensures)
+    let a = w .before .before .before .before .before .args in (
+      rw (← walked-as (a .constants .now) (a .ops .now) (a .callees .now) (a .i) (a .e) (a .left) (a .behind) (w .before .marked .ensures)
+          (f .part2 .given .1) (w .wcmu-subregion .ensures) .0),
+      tt,
+    )
 
 wcmu-loop-passed-once-requires : wcmu-loop-need wcmu-loop-lts.Need-passed-once-requires
 wcmu-loop-passed-once-requires t c κs =
@@ -329,25 +331,25 @@ wcmu-region-at-loop-less : wcmu-region-at-need wcmu-region-at-lts.Need-loop-less
 wcmu-region-at-loop-less t c =
     let s = c .before in
     let w = s .before .before in
-    omega (arith, rest-forward (w .before .before .loop .inv) (w .wcmu-step .result) (wcmu-region-at-means t w) (s .step .given .1))
+    omega (arith, (rw (s .step .given .1) at (wcmu-region-at-means t w)) .1 .0)
 
 wcmu-region-at-loop-again : wcmu-region-at-need wcmu-region-at-lts.Need-loop-again
 wcmu-region-at-loop-again t c =
     let s = c .before in
     let w = s .before .before in
-    rest-goes (w .before .before .loop .inv) (w .wcmu-step .result) (wcmu-region-at-means t w) (s .step .given .1)
+    rest-goes (w .before .before .loop .inv) (rw (s .step .given .1) at (wcmu-region-at-means t w))
 
 wcmu-region-at-returns : wcmu-region-at-need wcmu-region-at-lts.Need-returns
 wcmu-region-at-returns t c =
     let s = c .before in
     let w = s .before .before in
-    rest-ends (w .before .before .loop .inv) (w .wcmu-step .result) (wcmu-region-at-means t w) (w .before .loop-test .taken) (s .step2 .given .1)
+    rest-ends (w .before .before .loop .inv) (s .step2 .given .0 .0) (w .before .loop-test .taken) (rw (s .step2 .given .1) at (wcmu-region-at-means t w))
 
 wcmu-region-at-returns-2 : wcmu-region-at-need wcmu-region-at-lts.Need-returns-2
 wcmu-region-at-returns-2 t c =
     let s = c .before in
     let w = s .before .before in
-    rest-refused (w .before .before .loop .inv) (w .wcmu-step .result) (wcmu-region-at-means t w) (s .step3 .given .1)
+    rest-refused (w .before .before .loop .inv) _ _ (rw (s .step3 .given .1) at (wcmu-region-at-means t w))
 
 wcmu-region-at-returns-3 : wcmu-region-at-need wcmu-region-at-lts.Need-returns-3
 wcmu-region-at-returns-3 t c = rest-end (c .before .before .loop .inv) (c .before .loop-test .left) (c .height-at .result) (c .height-at .ensures)
