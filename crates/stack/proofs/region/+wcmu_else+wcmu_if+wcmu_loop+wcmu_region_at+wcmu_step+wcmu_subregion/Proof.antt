@@ -9,8 +9,7 @@ use Rattle.stack.specs.Steps.{StepMeans}
 use Rattle.stack.proofs.RowLaws.{Rest, rest-start, rest-small, rest-fits, rest-end, rest-goes, rest-ends, rest-refused}
 use Rattle.stack.proofs.RowLaws.{part-deepest, part-refused, lift-fits, part-done}
 use Rattle.stack.proofs.BlockLaws.{block-part, walked-as, if-joins, else-refused-second, else-joins, loop-once, loop-uncounted, loop-goes}
-use Rattle.stack.proofs.StepLaws.{Over, over-fits, over, behind-small}
-use Rattle.stack.proofs.StepLaws.{step-if, step-else, step-loop, step-ends, step-break, step-break-if, step-plain}
+use Rattle.stack.proofs.StepLaws.{Over, over-fits, over, behind-small, step-if, step-else, step-loop, step-ends, step-break, step-break-if, step-plain}
 use Prim.Native.Nat.{ℕ, _<_, _+_, _-_, _*_}
 use borrow.Fn.Kinds.{In, Out}
 use borrow.Fn.PlainCycle.{Measures, is, falls, and}
