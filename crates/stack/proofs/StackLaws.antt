@@ -1,4 +1,4 @@
--- How the stack walk goes on at an op, and behind an If, an Else and a Loop, said of plain values.
+-- How the stack walk goes on in a part, and behind an If, an Else and a Loop, said of plain values.
 -- Assumes nothing.
 use mathlib.Core.Path.{_≡_, refl}
 use mathlib.Core.Bool.{Bool, true, false}
