@@ -1,20 +1,18 @@
 -- The row check's loop over its array of ends, turn by turn. Assumes nothing.
-use mathlib.Core.Path.{_≡_, refl, sym, ap, _∙_, subst}
-use mathlib.Core.Bool.{Bool, false, cond}
-use mathlib.Core.List.{List}
+use mathlib.Core.Path.{_≡_, refl, _∙_}
+use mathlib.Core.Bool.{Bool, cond}
+use mathlib.Core.List.{List, _∷_}
 use Prim.Native.Nat.{ℕ, zero, suc, _+_, _-_, _*_, _<_, _≤_}
 use native.Mathlib.Numerals.{add-one, sub-one}
 use native.Mathlib.Omega.{arith}
-use borrow.Author.Tests.{ne-eqb}
 use lib.Dec.{eqb, ltb}
 use lib.ListN.{length, getD, set, length-set}
 use Rattle.rules.specs.Ops.{kind, fieldA}
-use Rattle.rows.specs.declared.check.Opening.the-variants.{Plain, Crossed}
-use Rattle.rows.specs.Tree.{HasRow}
+use Rattle.rows.specs.declared.check.Opening.the-variants.{Plain}
 use Rattle.rows.specs.Answers.{opensAt}
-use Rattle.rows.proofs.TurnLaws.{opening, opened-at}
-use Rattle.rows.proofs.OpenBlocks.{stack, stack-length, stack-push, boundOf, Stage, room, few-loops, finished}
-use Rattle.rows.proofs.OpenBlocks.{plain-turn, crossed-turn, open-turn, else-turn, close-turn}
+use Rattle.rows.proofs.TurnLaws.{opening}
+use Rattle.rows.proofs.OpenBlocks.{stack, stack-length, stack-push, boundOf, Stage, room, few-loops}
+use Rattle.rows.proofs.OpenBlocks.{plain-turn, opened-turn, open-turn, else-turn, close-turn}
 
 -- the check at i, with `depth` blocks open, `loops` of them loops; the array holds cap ends, enough for the range
 pub record State (op : ℕ → ℕ) (from to cap : ℕ) (ends : List ℕ) (depth loops i : ℕ) : Type 0 where
@@ -37,43 +35,22 @@ carried e d l s = rw (e, d, l) s
 
 module _ {op : ℕ → ℕ} {from to cap : ℕ} {ends : List ℕ} {depth loops i : ℕ} (s : State op from to cap ends depth loops i) where
   -- what the numbers of the code are bounded by
-  pub record Sizes : Type 0 where
-    pub low : from + depth ≤ i
-    pub within : i ≤ boundOf to (stack ends depth)
-    pub inside : boundOf to (stack ends depth) + depth ≤ to
-    pub loops-few : loops ≤ depth
-
-  pub sizes : Sizes
+  pub sizes : (from + depth ≤ i) × (i ≤ boundOf to (stack ends depth)) × (boundOf to (stack ends depth) + depth ≤ to) × (loops ≤ depth)
   sizes =
-      let n = stack-length ends depth in
+      let es = stack ends depth in
       let t = s .stage in
-      record {
-        low = omega (arith, t .low);
-        within = t .within;
-        inside = omega (arith, room op from to (stack ends depth) (t .nested));
-        loops-few = omega (arith, t .counted, few-loops op from to (stack ends depth));
-      }
+      omega (arith, stack-length ends depth, t .low, t .within, room op from to es (t .nested), t .counted, few-loops op from to es)
 
-  pub all-closed : to ≤ i → HasRow op false from to
-  all-closed h = finished op from to (s .stage) h
-
-  module _ {bound : ℕ} (same : bound ≡ boundOf to (stack ends depth)) (lt : i < bound) where
+  module _ {bound : ℕ} (is : bound ≡ boundOf to (stack ends depth)) (lt : i < bound) where
     pub plain-next : Plain ≡ opensAt op i bound (ltb 0 loops) → State op from to cap ends depth loops (i + 1)
-    plain-next e = record {
-      size = s .size;
-      enough = s .enough;
-      stage = rw (add-one i) (plain-turn op from to (s .stage) (rw same at lt) (rw same at e));
-    }
-
-    pub crossed-next : Crossed ≡ opensAt op i bound (ltb 0 loops) → HasRow op false from to → ⊥
-    crossed-next e = crossed-turn op from to (s .stage) (rw same at lt) (rw same at e)
+    plain-next e =
+        record { size = s .size; enough = s .enough; stage = rw (add-one i) (plain-turn op from to (s .stage) is lt e) }
 
     -- the array has room for one end more
     pub open-room : (c : Bool) (e : ℕ) → opening c e ≡ opensAt op i bound (ltb 0 loops) → (e < to) × (from + (depth + depth) + 2 ≤ to)
     open-room c e k =
-        let z = sizes in
-        let a = opened-at op (ltb 0 loops) i bound lt c e k in
-        omega (arith, a .behind, a .within)
+        let a = opened-turn op from to (s .stage) is lt c e k in
+        omega (arith, sizes, a .behind, a .within)
 
     pub open-next : (c : Bool) (e : ℕ) → opening c e ≡ opensAt op i bound (ltb 0 loops)
         → State op from to cap (set ends depth e) (depth + 1) (cond c (loops + 1) loops) (i + 1)
@@ -82,7 +59,7 @@ module _ {op : ℕ → ℕ} {from to cap : ℕ} {ends : List ℕ} {depth loops i
       enough = s .enough;
       stage =
           rw (add-one depth, add-one i, add-one loops, stack-push ends depth e (omega (arith, s .size, open-room c e k)))
-          (open-turn op from to (s .stage) c e (rw same at lt) (rw same at k));
+          (open-turn op from to (s .stage) is lt c e k);
     }
 
 -- the check at the end of a part, inside the range, where the op is w
@@ -92,50 +69,33 @@ pub record AtEnd (op : ℕ → ℕ) (from to cap : ℕ) (ends : List ℕ) (depth
   pub left : i < to
   pub here : op i ≡ w
 
-module _ {op : ℕ → ℕ} {from to cap : ℕ} {ends : List ℕ} {loops i w : ℕ} where
-  -- a block is open, whose end is the position
-  pub some-block : (depth : ℕ) → AtEnd op from to cap ends depth loops i w → 1 ≤ depth
-  some-block zero a = omega (arith, a .past)
-  some-block (suc k) a = omega arith
+-- a block is open, whose end is the position
+top : {op : ℕ → ℕ} {from to cap : ℕ} {ends : List ℕ} {loops i w : ℕ} (depth : ℕ) → AtEnd op from to cap ends depth loops i w
+    → (k : ℕ) × (depth ≡ suc k) × Stage op from to (i ∷ stack ends k) loops i
+top zero a = absurd (omega (arith, a .past, a .left))
+top {ends = ends} {i = i} (suc k) a =
+    let same : getD ends k 0 ≡ i = omega (arith, a .past, a .state .stage .within) in (k, refl, rw same at (a .state .stage))
 
-  top : (k : ℕ) → AtEnd op from to cap ends (suc k) loops i w → (i ≡ getD ends k 0) × (op (getD ends k 0) ≡ w)
-  top k a = let same : i ≡ getD ends k 0 = omega (arith, a .past, a .state .stage .within) in (same, ap op (sym same) ∙ a .here)
+module _ {op : ℕ → ℕ} {from to cap : ℕ} {ends : List ℕ} {depth loops i w : ℕ} (a : AtEnd op from to cap ends depth loops i w) where
+  pub some-block : 1 ≤ depth
+  some-block = omega (arith, top depth a .1)
 
-  at-top : (k : ℕ) → AtEnd op from to cap ends (suc k) loops i w → Stage op from to (stack ends (suc k)) loops (getD ends k 0)
-  at-top k a = subst (Stage op from to (stack ends (suc k)) loops) (top k a .0) (a .state .stage)
+  pub some-loop : kind w ≡ 25 → 1 ≤ loops
+  some-loop e = omega (arith, simp (a .here, e) at (top depth a .2 .counted))
 
-  pub some-loop : (depth : ℕ) → AtEnd op from to cap ends depth loops i w → kind w ≡ 25 → 1 ≤ loops
-  some-loop zero a e = absurd (omega (arith, a .past, a .left))
-  some-loop (suc k) a e = omega (arith, simp (top k a .1, e) at (a .state .stage .counted))
-
-  pub else-next : (depth : ℕ) → AtEnd op from to cap ends depth loops i w → kind w ≡ 22
-      → State op from to cap (set ends (depth - 1) (fieldA w)) depth loops (i + 1)
-  else-next zero a e = absurd (omega (arith, a .past, a .left))
-  else-next (suc k) a e =
-      let j = top k a in
+  pub else-next : kind w ≡ 22 → State op from to cap (set ends (depth - 1) (fieldA w)) depth loops (i + 1)
+  else-next e =
+      let (k, is, s) = top depth a in
       let z = sizes (a .state) in
-      let t = else-turn op from to (at-top k a) (rw (j .1) e) in
-      record {
-        size = length-set ends (suc k - 1) (fieldA w) ∙ a .state .size;
+      let t = else-turn op from to s (rw (a .here) e) in
+      rw (is, sub-one, add-one i) (record {
+        size = length-set ends k (fieldA w) ∙ a .state .size;
         enough = a .state .enough;
-        stage = rw (sub-one, add-one i, j .0, stack-push ends k (fieldA w) (omega (arith, a .state .size))) (rw (j .1) at t);
-      }
+        stage = rw (stack-push ends k (fieldA w) (omega (arith, a .state .size))) (rw (a .here) at t);
+      })
 
-  closed : (n depth : ℕ) → AtEnd op from to cap ends depth loops i w → (kind w ≡ 22 → ⊥) → loops ≡ cond (eqb (kind w) 25) (suc n) n
-      → State op from to cap ends (depth - 1) n (i + 1)
-  closed n zero a e l = absurd (omega (arith, a .past, a .left))
-  closed n (suc k) a e l =
-      let j = top k a in
-      record {
-        size = a .state .size;
-        enough = a .state .enough;
-        stage = rw (sub-one, add-one i, j .0) (close-turn op from to (at-top k a) n (rw (j .1) e) (rw (j .1) l));
-      }
-
-  pub close-next : (depth : ℕ) → AtEnd op from to cap ends depth loops i w → (kind w ≡ 22 → ⊥) → (kind w ≡ 25 → ⊥)
-      → State op from to cap ends (depth - 1) loops (i + 1)
-  close-next depth a e n = closed loops depth a e (simp (ne-eqb (kind w) 25 n))
-
-  pub close-loop-next : (depth : ℕ) → AtEnd op from to cap ends depth loops i w → kind w ≡ 25
-      → State op from to cap ends (depth - 1) (loops - 1) (i + 1)
-  close-loop-next depth a e = closed (loops - 1) depth a (λ n. omega arith) (simp e (omega (arith, some-loop depth a e)))
+  pub close-next : (c : Bool) → eqb (kind w) 25 ≡ c → (kind w ≡ 22 → ⊥) → State op from to cap ends (depth - 1) (cond c (loops - 1) loops) (i + 1)
+  close-next c e n =
+      let (k, is, s) = top depth a in
+      let t = close-turn op from to s c (rw (a .here) e) (rw (a .here) n) in
+      rw (is, sub-one, add-one i) (record { size = a .state .size; enough = a .state .enough; stage = t })

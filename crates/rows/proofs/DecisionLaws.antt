@@ -1,30 +1,16 @@
 -- The decisions at an op by the tests that the code makes, on the ops as the code reads them. Assumes nothing.
 use mathlib.Core.Path.{_≡_}
-use mathlib.Core.Bool.{Bool, true, false, cond, _&&_, and-false, or-true}
+use mathlib.Core.Bool.{Bool, true, false, cond, _&&_, or-true}
 use mathlib.Core.List.{List}
 use Prim.Native.Nat.{ℕ, suc, _+_, _-_, _<_, _≤_}
 use native.Mathlib.Omega.{arith}
-use borrow.Author.Tests.{ltb-true, lt-ltb, le-ltb, le-leb, lt-leb, ne-eqb}
+use borrow.Author.Tests.{ltb-true, lt-ltb, le-ltb, le-leb, ne-eqb}
 use lib.Dec.{eqb, leb, ltb}
 use lib.ListN.{length, getD}
 use Rattle.rules.specs.Ops.{kind, fieldA, opAt}
 use Rattle.words.proofs.OpLaws.{read-op}
 use Rattle.rows.specs.declared.check.Opening.the-variants.{Plain, Crossed}
 use Rattle.rows.specs.Answers.{blockIf, loopIf, opensIf, opensLoop, opensAt}
-
--- a target that is not in the stretch
-module _ (ops : List ℕ) (i t to : ℕ) where
-  pub if-behind : t ≤ i → Crossed ≡ opensIf (opAt ops) i t to
-  if-behind h = simp (le-ltb i t h)
-
-  pub if-past : to < t → Crossed ≡ opensIf (opAt ops) i t to
-  if-past h = simp (lt-leb t to h, and-false)
-
-  pub loop-behind : t ≤ i + 1 → Crossed ≡ opensLoop (opAt ops) i t to
-  loop-behind h = simp (le-ltb (suc i) t (omega arith))
-
-  pub loop-past : to < t → Crossed ≡ opensLoop (opAt ops) i t to
-  loop-past h = simp (lt-leb t to h, and-false)
 
 -- a target behind the op, in the stretch
 pub record InStretch (ops : List ℕ) (i t to : ℕ) : Type 0 where
@@ -35,15 +21,9 @@ pub record InStretch (ops : List ℕ) (i t to : ℕ) : Type 0 where
 module _ {ops : List ℕ} {i t to : ℕ} (s : InStretch ops i t to) where
   -- an Else stands before the target
   module _ (e : kind (getD ops (t - 1) 0) ≡ 22) where
-    at-else : let f = fieldA (getD ops (t - 1) 0) in
+    pub at-else : let f = fieldA (getD ops (t - 1) 0) in
         blockIf (ltb (t - 1) f && ltb f to && eqb (kind (opAt ops f)) 23) (t - 1) ≡ opensIf (opAt ops) i t to
     at-else = simp (lt-ltb i t (s .behind), le-leb t to (s .within), read-op ops (t - 1) (omega arith), e)
-
-    pub else-behind : fieldA (getD ops (t - 1) 0) ≤ t - 1 → Crossed ≡ opensIf (opAt ops) i t to
-    else-behind h = rw (← at-else) (simp (le-ltb (t - 1) (fieldA (getD ops (t - 1) 0)) h))
-
-    pub else-past : ltb (fieldA (getD ops (t - 1) 0)) to ≡ false → Crossed ≡ opensIf (opAt ops) i t to
-    else-past h = rw (← at-else) (simp (h, and-false))
 
     pub else-at : let f = fieldA (getD ops (t - 1) 0) in
         t - 1 < f → ltb f to ≡ true → (c : Bool) → eqb (kind (getD ops f 0)) 23 ≡ c → blockIf c (t - 1) ≡ opensIf (opAt ops) i t to
@@ -52,11 +32,8 @@ module _ {ops : List ℕ} {i t to : ℕ} (s : InStretch ops i t to) where
         rw (← at-else) (simp (lt-ltb (t - 1) f h, g, read-op ops f (omega (arith, ltb-true f to g)), k))
 
   module _ (e : kind (getD ops (t - 1) 0) ≡ 22 → ⊥) where
-    no-else : blockIf (ltb t to && eqb (kind (opAt ops t)) 23) t ≡ opensIf (opAt ops) i t to
+    pub no-else : blockIf (ltb t to && eqb (kind (opAt ops t)) 23) t ≡ opensIf (opAt ops) i t to
     no-else = simp (lt-ltb i t (s .behind), le-leb t to (s .within), read-op ops (t - 1) (omega arith), ne-eqb (kind (getD ops (t - 1) 0)) 22 e)
-
-    pub end-past : to ≤ t → Crossed ≡ opensIf (opAt ops) i t to
-    end-past h = rw (← no-else) (simp (le-ltb t to h))
 
     pub end-at : t < to → (c : Bool) → eqb (kind (getD ops t 0)) 23 ≡ c → blockIf c t ≡ opensIf (opAt ops) i t to
     end-at h c k = rw (← no-else) (simp (lt-ltb t to h, read-op ops t (omega arith), k))

@@ -7,5 +7,4 @@ pub mod OpenBlocks
 pub mod BlockArray
 pub mod Openings
 pub mod PartRows
-pub mod BlockLaws
 pub mod FitLaws

@@ -1,23 +1,23 @@
 -- The open blocks of the row check: the ends that its array holds, what is still to be a row there, and each turn of its loop.
 -- Assumes nothing.
-use mathlib.Core.Path.{_≡_, refl, sym, ap, _∙_, subst}
+use mathlib.Core.Path.{_≡_, refl, ap, _∙_}
 use mathlib.Core.Bool.{Bool, true, false, cond, _||_}
 use mathlib.Core.List.{List, [], _∷_}
 use mathlib.Core.Logic.{_↔_}
 use Prim.Native.Nat.{ℕ, zero, suc, _+_, _-_, _<_, _≤_}
 use native.Mathlib.Omega.{arith}
-use borrow.Author.Tests.{lt-ltb, ne-eqb}
+use borrow.Author.Tests.{lt-ltb, eq-eqb, ne-eqb}
 use lib.Dec.{eqb, ltb}
 use lib.ListN.{length, getD, set}
 use lib.Seq.{getD-set-same, getD-set-other}
 use Rattle.rules.specs.Ops.{kind, fieldA}
-use Rattle.rules.specs.Rows.{end, Parsed, row, crossed, parse}
+use Rattle.rules.specs.Rows.{end, row, crossed, parse}
 use Rattle.rules.proofs.RowTree.{parse-sound, parse-complete}
 use Rattle.rows.specs.declared.check.Opening.{Opening}
 use Rattle.rows.specs.declared.check.Opening.the-variants.{Plain, Crossed}
 use Rattle.rows.specs.Tree.{HasRow, isRow}
 use Rattle.rows.specs.Answers.{opensAt}
-use Rattle.rows.proofs.TurnLaws.{Rest, ElseFits, opening, Turn, as-opened, turn}
+use Rattle.rows.proofs.TurnLaws.{Rest, ElseFits, opening, Opened, Turn, as-opened, turn}
 
 -- the ends of the open blocks, the innermost first
 abbrev pub stack : List ℕ → ℕ → List ℕ
@@ -79,70 +79,66 @@ module _ (op : ℕ → ℕ) (from to : ℕ) where
 
   pub few-loops : (es : List ℕ) → loopsIn op es ≤ length es
   few-loops [] = omega arith
-  few-loops (e ∷ es) = go (eqb (kind (op e)) 25) (few-loops es)
-    where
-      go : (c : Bool) → loopsIn op es ≤ length es → cond c (suc (loopsIn op es)) (loopsIn op es) ≤ suc (length es)
-      go true h = omega arith
-      go false h = omega arith
+  few-loops (e ∷ es) =
+      elim (eqb (kind (op e)) 25) as (λ c. cond c (suc (loopsIn op es)) (loopsIn op es) ≤ suc (length es))
+      [ true ↦ omega (arith, few-loops es) | false ↦ omega (arith, few-loops es) ]
 
   in-cons : (e : ℕ) (es : List ℕ) (c : Bool) → eqb (kind (op e)) 25 ≡ c → inLoop op (e ∷ es) ≡ c || inLoop op es
   in-cons e es true k = rw k (lt-ltb 0 (suc (loopsIn op es)) (omega arith))
   in-cons e es false k = rw k
 
-  module _ {es : List ℕ} {loops i : ℕ} (s : Stage es loops i) where
-    turn-at : (o : Opening) → o ≡ opensAt op i (boundOf to es) (ltb 0 loops) → i < boundOf to es → Turn op (inLoop op es) i (boundOf to es) o
-    turn-at o e lt =
-        let same : opensAt op i (boundOf to es) (inLoop op es) ≡ o = rw (← s .counted) (sym e) in
-        subst (Turn op (inLoop op es) i (boundOf to es)) same (turn op (inLoop op es) i (boundOf to es) lt)
+  -- at the end of the range no block is open, so it is a row
+  pub finished : {es : List ℕ} {loops i : ℕ} → Stage es loops i → to ≤ i → HasRow op false from to
+  finished {es = []} s h = s .same .1 ((end, omega (arith, s .within)), tt)
+  finished {es = e ∷ es} s h = absurd (omega (arith, s .within, room (e ∷ es) (s .nested)))
 
-    pub plain-turn : i < boundOf to es → Plain ≡ opensAt op i (boundOf to es) (ltb 0 loops) → Stage es loops (suc i)
-    plain-turn lt e =
-        let t = turn-at Plain e lt in
+  -- a turn of the loop inside the innermost part, which ends at `bound`
+  module _ {es : List ℕ} {loops i : ℕ} (s : Stage es loops i) {bound : ℕ} (is : bound ≡ boundOf to es) (lt : i < bound) where
+    turn-at : {o : Opening} → o ≡ opensAt op i bound (ltb 0 loops) → Turn op (inLoop op es) i (boundOf to es) o
+    turn-at e = rw (e, is, s .counted) (turn op (inLoop op es) i (boundOf to es) (rw is at lt))
+
+    pub plain-turn : Plain ≡ opensAt op i bound (ltb 0 loops) → Stage es loops (suc i)
+    plain-turn e =
+        let t = turn-at e in
         record {
           low = omega (arith, s .low);
-          within = lt;
+          within = rw is at lt;
           nested = s .nested;
           counted = s .counted;
           same = (λ r. let o = s .same .0 r in (t .0 (o .0), o .1), λ o. s .same .1 (t .1 (o .0), o .1));
         }
 
-    pub crossed-turn : i < boundOf to es → Crossed ≡ opensAt op i (boundOf to es) (ltb 0 loops) → HasRow op false from to → ⊥
-    crossed-turn lt e r = turn-at Crossed e lt (s .same .0 r .0)
+    pub crossed-turn : Crossed ≡ opensAt op i bound (ltb 0 loops) → HasRow op false from to → ⊥
+    crossed-turn e r = turn-at e (s .same .0 r .0)
 
     -- an If or a Loop, whose part is one block more
-    pub open-turn : (c : Bool) (e : ℕ) → i < boundOf to es → opening c e ≡ opensAt op i (boundOf to es) (ltb 0 loops)
-        → Stage (e ∷ es) (cond c (suc loops) loops) (suc i)
-    open-turn c e lt k =
-        let t = as-opened op (inLoop op es) i (boundOf to es) c e (turn-at (opening c e) k lt) in
-        let l = in-cons e es c (t .is-loop) in
-        record {
-          low = omega (arith, s .low);
-          within = t .behind;
-          nested = (t .within, t .fits, s .nested);
-          counted = rw (t .is-loop, s .counted);
-          same = (
-            λ r. let o = s .same .0 r in let p = t .split .0 (o .0) in (rw l (p .0), (p .1, o .1)),
-            λ o. s .same .1 (t .split .1 (rw l at (o .0), o .1 .0), o .1 .1),
-          );
-        }
+    module _ (c : Bool) (e : ℕ) (k : opening c e ≡ opensAt op i bound (ltb 0 loops)) where
+      pub opened-turn : Opened op (inLoop op es) i (boundOf to es) c e
+      opened-turn = as-opened op (inLoop op es) i (boundOf to es) c e (turn-at k)
 
-    -- at the end of the range no block is open, so it is a row
-    pub finished : to ≤ i → HasRow op false from to
-    finished h = go es s
-      where
-        go : (es : List ℕ) → Stage es loops i → HasRow op false from to
-        go [] s = s .same .1 ((end, omega (arith, s .within)), tt)
-        go (e ∷ es) s = absurd (omega (arith, s .within, room (e ∷ es) (s .nested)))
+      pub open-turn : Stage (e ∷ es) (cond c (suc loops) loops) (suc i)
+      open-turn =
+          let t = opened-turn in
+          let l = in-cons e es c (t .is-loop) in
+          record {
+            low = omega (arith, s .low);
+            within = t .behind;
+            nested = (t .within, t .fits, s .nested);
+            counted = rw (t .is-loop, s .counted);
+            same = (
+              λ r. let o = s .same .0 r in let p = t .split .0 (o .0) in (rw l (p .0), (p .1, o .1)),
+              λ o. s .same .1 (t .split .1 (rw l at (o .0), o .1 .0), o .1 .1),
+            );
+          }
 
   -- the end of a part
   module _ {e : ℕ} {es : List ℕ} {loops : ℕ} (s : Stage (e ∷ es) loops e) where
     pub else-turn : kind (op e) ≡ 22 → Stage (fieldA (op e) ∷ es) loops (suc e)
     else-turn k =
         let f = s .nested .1 k in
-        let x : eqb (kind (op e)) 22 ≡ true = simp k in
+        let x = eq-eqb (kind (op e)) 22 k in
         let y : eqb (kind (op (fieldA (op e)))) 22 ≡ false = simp (f .closed) in
-        let z : eqb (kind (op (fieldA (op e)))) 25 ≡ false = simp (f .closed) in
-        let l = in-cons (fieldA (op e)) es false z in
+        let l = in-cons (fieldA (op e)) es false (simp (f .closed)) in
         record {
           low = omega (arith, s .low);
           within = f .behind;
@@ -154,27 +150,24 @@ module _ (op : ℕ → ℕ) (from to : ℕ) where
           );
         }
 
-    pub close-turn : (n : ℕ) → (kind (op e) ≡ 22 → ⊥) → loops ≡ cond (eqb (kind (op e)) 25) (suc n) n → Stage es n (suc e)
-    close-turn n k m =
-        let x = ne-eqb (kind (op e)) 22 k in
+    pub close-turn : (c : Bool) → eqb (kind (op e)) 25 ≡ c → (kind (op e) ≡ 22 → ⊥) → Stage es (cond c (loops - 1) loops) (suc e)
+    close-turn c k n =
+        let x = ne-eqb (kind (op e)) 22 n in
+        let least = loopsIn op es in
         record {
           low = omega (arith, s .low);
           within = s .nested .0;
           nested = s .nested .2;
-          counted = go (eqb (kind (op e)) 25) (sym m ∙ s .counted);
+          counted =
+              (elim c as (λ c. loops ≡ cond c (suc least) least → cond c (loops - 1) loops ≡ least) [ true ↦ λ h. omega arith | false ↦ λ h. h ])
+              (rw k at (s .counted));
           same = (λ r. rw x at (s .same .0 r .1), λ o. s .same .1 ((end, refl), rw x o));
         }
-      where
-        go : (c : Bool) → cond c (suc n) n ≡ cond c (suc (loopsIn op es)) (loopsIn op es) → n ≡ loopsIn op es
-        go true h = omega arith
-        go false h = h
 
   pub row-there : HasRow op false from to → true ≡ isRow (parse (to - from) op false from to)
   row-there r = rw (parse-complete (to - from) op false from to (r .0) (omega arith) (r .1))
 
   pub no-row : from ≤ to → (HasRow op false from to → ⊥) → false ≡ isRow (parse (to - from) op false from to)
-  no-row h n = go (parse (to - from) op false from to) refl
-    where
-      go : (p : Parsed) → parse (to - from) op false from to ≡ p → false ≡ isRow p
-      go (row r) e = absurd (n (r, parse-sound (to - from) op false from to r h e))
-      go crossed e = refl
+  no-row h n =
+      (elim (parse (to - from) op false from to) as (λ p. parse (to - from) op false from to ≡ p → false ≡ isRow p)
+      [ row r ↦ λ e. absurd (n (r, parse-sound (to - from) op false from to r h e)) | crossed ↦ λ _. refl ]) refl

@@ -1,63 +1,75 @@
--- What a row that is not empty is, by the kind of its first op: what the walks cite.
+-- How a row that is not empty opens: by the shape of its first op, what the walks cite, and by the words that the code reads, what `block_at` cites.
 -- Assumes nothing.
 use mathlib.Core.Path.{_≡_, refl, subst}
-use mathlib.Core.Bool.{Bool, true, false}
-use mathlib.Core.Logic.{_⊎_, ⊎-elim}
-use Prim.Native.Nat.{ℕ, _-_, _<_}
+use mathlib.Core.Bool.{Bool, true}
+use mathlib.Core.List.{List}
+use mathlib.Core.Logic.{_⊎_, inl, inr}
+use Prim.Native.Nat.{ℕ, _-_, _<_, _≤_}
 use native.Mathlib.Omega.{arith}
-use borrow.Author.Tests.{eqb-true, ne-eqb}
-use lib.Dec.{eqb}
-use Rattle.rules.specs.Ops.{kind, fieldA}
-use Rattle.rules.specs.Rows.{Shape, plain, trap, returns, ifTo, elseTo, endIf, loopTo, endLoop, breaks, breaksIf, calls, shapeOf}
-use Rattle.rules.specs.Rows.{step, stop, leave, leaveIf}
+use borrow.Author.Tests.{eqb-true, eqb-false}
+use lib.ListN.{length, getD}
+use Rattle.rules.specs.Kinds as K
+use Rattle.rules.specs.Ops.{kind, fieldA, opAt}
+use Rattle.rules.specs.Rows.{Shape, trap, returns, ifTo, loopTo, breaks, breaksIf, shapeOf}
+use Rattle.rules.proofs.Shapes.{by-kind}
+use Rattle.words.proofs.OpLaws.{read-op}
 use Rattle.rows.specs.Tree.{HasRow}
+use Rattle.rows.specs.Opens.{IfAt, ElseAt, Opens, StepFits}
+use Rattle.rows.specs.declared.block.Block.the-variants.{Plain, Ends, Break, BreakIf, If, IfElse, Loop}
 use Rattle.rows.proofs.TreeLaws.{OpensAs, opens}
-use Rattle.rows.specs.Opens.{Behind, BreakAt, IfAt, ElseAt, LoopAt}
-
-not-both : (b : Bool) → b ≡ true → b ≡ false → ⊥
-not-both b p q = let z : _≡_ {A = ℕ} 0 1 = cc in omega arith
 
 module _ (op : ℕ → ℕ) (l : Bool) (i to : ℕ) (h : HasRow op l i to) (lt : i < to) where
-  -- by its shape
   pub opened : OpensAs op l i to (shapeOf (op i))
   opened = opens op l i to (h .0) (h .1) lt
 
-  shaped : (s : Shape) → shapeOf (op i) ≡ s → OpensAs op l i to s
+  pub shaped : (s : Shape) → shapeOf (op i) ≡ s → OpensAs op l i to s
   shaped s e = subst (OpensAs op l i to) e opened
 
-  pub opens-return : kind (op i) ≡ 31 → Behind op l i to stop
-  opens-return k = shaped returns (simp k)
+module _ {ops : List ℕ} {i to : ℕ} (s : StepFits ops i to) where
+  abbrev W : ℕ
+  W = getD ops i 0
 
-  pub opens-trap : kind (op i) ≡ 50 → Behind op l i to stop
-  opens-trap k = shaped trap (simp k)
+  -- by the shape of the word that the code reads
+  here : (t : Shape) → shapeOf W ≡ t → OpensAs (opAt ops) true i to t
+  here t e = shaped (opAt ops) true i to (s .row .has-row) (s .here) t (rw (read-op ops i (omega (arith, s .here, s .row .within))) e)
 
-  pub opens-break : kind (op i) ≡ 26 → BreakAt op l i to leave
-  opens-break k = shaped breaks (simp k)
+  either : kind W ≡ K.If → IfAt (opAt ops) true i to (fieldA W) ⊎ ElseAt (opAt ops) true i to (fieldA W - 1) (fieldA (opAt ops (fieldA W - 1)))
+  either k = here (ifTo (fieldA W)) (simp k)
 
-  pub opens-break-if : kind (op i) ≡ 27 → BreakAt op l i to leaveIf
-  opens-break-if k = shaped breaksIf (simp k)
+  -- an If leads forward, inside the row
+  pub if-reach : kind W ≡ K.If → (1 ≤ fieldA W) × (fieldA W ≤ to) × (to ≤ length ops)
+  if-reach k = elim (either k) [ inl a ↦ omega arith | inr a ↦ omega arith ]
 
-  pub opens-loop : kind (op i) ≡ 24 → LoopAt op l i to (fieldA (op i) - 1)
-  opens-loop k = shaped (loopTo (fieldA (op i))) (simp k)
+  pub at-loop : kind W ≡ K.Loop → Opens ops i to (Loop (fieldA W - 1))
+  at-loop k = here (loopTo (fieldA W)) (simp k)
 
-  either : kind (op i) ≡ 21 → IfAt op l i to (fieldA (op i)) ⊎ ElseAt op l i to (fieldA (op i) - 1) (fieldA (op (fieldA (op i) - 1)))
-  either k = shaped (ifTo (fieldA (op i))) (simp k)
+  pub loop-reach : kind W ≡ K.Loop → 1 ≤ fieldA W
+  loop-reach k = omega (arith, at-loop k)
 
-  pub opens-if : kind (op i) ≡ 21 → eqb (kind (op (fieldA (op i) - 1))) 22 ≡ false → IfAt op l i to (fieldA (op i))
-  opens-if k n = ⊎-elim (λ a. a) (λ (a : ElseAt op l i to (fieldA (op i) - 1) (fieldA (op (fieldA (op i) - 1)))). absurd (not-both _ (a .is-else) n)) (either k)
+  abbrev last : ℕ
+  last = getD ops (fieldA W - 1) 0
 
-  pub opens-else : kind (op i) ≡ 21 → eqb (kind (op (fieldA (op i) - 1))) 22 ≡ true → ElseAt op l i to (fieldA (op i) - 1) (fieldA (op (fieldA (op i) - 1)))
-  opens-else k n = ⊎-elim (λ (a : IfAt op l i to (fieldA (op i))). absurd (not-both _ n (a .no-else))) (λ a. a) (either k)
+  read-last : kind W ≡ K.If → opAt ops (fieldA W - 1) ≡ last
+  read-last k = read-op ops _ (omega (arith, if-reach k))
 
-  -- any other op of a row is plain
-  pub opens-plain : (kind (op i) ≡ 21 → ⊥) → (kind (op i) ≡ 24 → ⊥) → (kind (op i) ≡ 26 → ⊥) → (kind (op i) ≡ 27 → ⊥) → (kind (op i) ≡ 31 → ⊥)
-      → (kind (op i) ≡ 50 → ⊥) → Behind op l i to step
-  opens-plain a b c d e f = other (eqb (kind (op i)) 22) (eqb (kind (op i)) 23) (eqb (kind (op i)) 25) (eqb (kind (op i)) 30) refl refl refl refl
-    where
-      other : (p q r s : Bool) → eqb (kind (op i)) 22 ≡ p → eqb (kind (op i)) 23 ≡ q → eqb (kind (op i)) 25 ≡ r → eqb (kind (op i)) 30 ≡ s → Behind op l i to step
-      other true q r s x y z w = let k = eqb-true (kind (op i)) 22 x in absurd (shaped (elseTo (fieldA (op i))) (simp k))
-      other false true r s x y z w = let k = eqb-true (kind (op i)) 23 y in absurd (shaped endIf (simp k))
-      other false false true s x y z w = let k = eqb-true (kind (op i)) 25 z in absurd (shaped endLoop (simp k))
-      other false false false true x y z w = let k = eqb-true (kind (op i)) 30 w in shaped (calls (fieldA (op i))) (simp k)
-      other false false false false x y z w =
-          shaped plain (simp (x, y, z, w, ne-eqb _ 21 a, ne-eqb _ 24 b, ne-eqb _ 26 c, ne-eqb _ 27 d, ne-eqb _ 31 e, ne-eqb _ 50 f))
+  pub at-else : kind W ≡ K.If → kind last ≡ K.Else → Opens ops i to (IfElse (fieldA W - 1) (fieldA last))
+  at-else k e = elim (either k) [ inl a ↦ absurd (eqb-false _ K.Else (rw (read-last k) at (a .no-else)) e) | inr a ↦ rw (read-last k) at a ]
+
+  pub at-if : kind W ≡ K.If → (kind last ≡ K.Else → ⊥) → Opens ops i to (If (fieldA W))
+  at-if k n = elim (either k) [ inl a ↦ a | inr a ↦ absurd (n (eqb-true _ K.Else (rw (read-last k) at (a .is-else)))) ]
+
+  pub at-break : kind W ≡ K.Break → Opens ops i to Break
+  at-break k = here breaks (simp k)
+
+  pub at-break-if : kind W ≡ K.BreakIf → Opens ops i to BreakIf
+  at-break-if k = here breaksIf (simp k)
+
+  pub at-end : (kind W ≡ K.Return) ⊎ (kind W ≡ K.Trap) → Opens ops i to Ends
+  at-end = elim [ inl k ↦ here returns (simp k) | inr k ↦ here trap (simp k) ]
+
+  pub at-plain : (kind W ≡ K.If → ⊥) → (kind W ≡ K.Loop → ⊥) → (kind W ≡ K.Break → ⊥) → (kind W ≡ K.BreakIf → ⊥)
+      → (kind W ≡ K.Return → ⊥) → (kind W ≡ K.Trap → ⊥) → Opens ops i to Plain
+  at-plain p q r t u v =
+      by-kind W (λ x. OpensAs (opAt ops) true i to x → Opens ops i to Plain)
+      (λ k. absurd (p k)) (λ k o. absurd o) (λ k o. absurd o) (λ k. absurd (q k)) (λ k o. absurd o) (λ k. absurd (r k)) (λ k. absurd (t k)) (λ k o. o)
+      (λ k. absurd (u k)) (λ k. absurd (v k)) (λ n o. o) (here (shapeOf W) refl)

@@ -1,6 +1,6 @@
 -- The range of a chunk by its cases, and what the answer of the row check says of the chunk's row: what the crates above cite.
 -- Assumes nothing.
-use mathlib.Core.Path.{_≡_, refl, sym}
+use mathlib.Core.Path.{_≡_, refl, sym, subst}
 use mathlib.Core.Bool.{Bool, true, false, cond}
 use mathlib.Core.List.{List}
 use Prim.Native.Nat.{ℕ, suc, _+_, _-_, _≤_, max}
@@ -11,10 +11,10 @@ use lib.Dec.{eqb}
 use lib.ListN.{length}
 use Rattle.rules.specs.Kinds as K
 use Rattle.rules.specs.Numbers as N
-use Rattle.rules.specs.Outcome.{Result, ok, no, Found, found, nothing, andThen}
+use Rattle.rules.specs.Outcome.{ok, no, Found, found, nothing, andThen}
 use Rattle.rules.specs.Ops.{opAt}
 use Rattle.rules.specs.Form.{Chunk}
-use Rattle.rules.specs.Rows.{Row, Parsed, row, crossed, parse, Range, firstOf, orRefuse, rangeIf, rangeBy, rangeOf}
+use Rattle.rules.specs.Rows.{row, crossed, parse, Range, firstOf, orRefuse, rangeIf, rangeBy, rangeOf}
 use Rattle.rules.specs.Rows.{firstBackward, forwardTargets, orCrossed, rowOf, Walkable, walkable, chunkRow}
 use Rattle.rules.proofs.Answers.{from-ok}
 use Rattle.rules.proofs.RowTree.{row-some}
@@ -26,80 +26,53 @@ use Rattle.rows.proofs.SearchLaws.{first-within}
 abbrev stretch : ℕ → ℕ → Range
 stretch a b = record { from = a; to = b }
 
--- a Stream chunk
-module _ (mode : ℕ) (ops : List ℕ) (stream : mode ≡ K.StreamType) where
-  pub no-stream : nothing ≡ firstOf K.Stream ops 0 → no N.noStream 0 ≡ rangeBy mode ops
-  no-stream a = simp (eq-eqb mode K.StreamType stream, ← a)
-
-  module _ (s : ℕ) (a : found s ≡ firstOf K.Stream ops 0) where
-    pub no-reset : nothing ≡ firstOf K.Reset ops 0 → no N.noReset 0 ≡ rangeBy mode ops
-    no-reset b = simp (eq-eqb mode K.StreamType stream, ← a, ← b)
-
-    pub positions : (r to : ℕ) → found r ≡ firstOf K.Reset ops 0 → max (suc s) r ≡ to → ok (stretch (s + 1) to) ≡ rangeBy mode ops
-    positions r to b e = simp (eq-eqb mode K.StreamType stream, ← a, ← b, ← e, add-one)
+-- a Stream chunk with a Stream and a Reset
+pub positions : (mode : ℕ) (ops : List ℕ) → mode ≡ K.StreamType → (s : ℕ) → found s ≡ firstOf K.Stream ops 0 → (r to : ℕ) → found r ≡ firstOf K.Reset ops 0
+    → max (suc s) r ≡ to → ok (stretch (s + 1) to) ≡ rangeBy mode ops
+positions mode ops stream s a r to b e = simp (eq-eqb mode K.StreamType stream, ← a, ← b, ← e, add-one)
 
 -- the range lies in the list
 range-within : (stream : Bool) (ops : List ℕ) (g : Range) → rangeIf stream ops ≡ ok g → (g .from ≤ g .to) × (g .to ≤ length ops)
-range-within true ops g e = ends (firstOf K.Stream ops 0) (firstOf K.Reset ops 0) refl refl e
+range-within true ops g e =
+    let (s, a, f) = from-ok (orRefuse (firstOf K.Stream ops 0) N.noStream) _ e in
+    let (r, b, is) = from-ok (orRefuse (firstOf K.Reset ops 0) N.noReset) _ f in
+    let y : g .from ≡ suc s = cc in
+    let z : g .to ≡ max (suc s) r = cc in
+    omega (arith, first-within K.Stream ops 0 s (found-at _ _ a), first-within K.Reset ops 0 r (found-at _ _ b))
   where
-    ends : (s r : Found) → firstOf K.Stream ops 0 ≡ s → firstOf K.Reset ops 0 ≡ r
-        → andThen (orRefuse s N.noStream) (λ s. andThen (orRefuse r N.noReset) (λ r. ok (stretch (suc s) (max (suc s) r)))) ≡ ok g → (g .from ≤ g .to) × (g .to ≤ length ops)
-    ends (found s) (found r) a b e =
-        let y : g .from ≡ suc s = cc in
-        let z : g .to ≡ max (suc s) r = cc in
-        omega (arith, first-within K.Stream ops 0 s a, first-within K.Reset ops 0 r b)
-    ends (found s) nothing a b e = absurd (let z : _≡_ {A = ℕ} 0 1 = cc in omega arith)
-    ends nothing r a b e = absurd (let z : _≡_ {A = ℕ} 0 1 = cc in omega arith)
+    found-at : (f : Found) (n : ℕ) {i : ℕ} → orRefuse f n ≡ ok i → f ≡ found i
+    found-at (found j) n e = cc
+    found-at nothing n e = absurd (let z : _≡_ {A = ℕ} 0 1 = cc in omega arith)
 range-within false ops g e = let y : g .from ≡ 0 = cc in let z : g .to ≡ length ops = cc in omega arith
 
 -- the tests in their order
 module _ (mode : ℕ) (ops : List ℕ) where
-  pub no-range : (n : ℕ) → no n 0 ≡ rangeBy mode ops → no n 0 ≡ rangeRow mode ops
-  no-range n e = rw (← e)
-
   module _ (g : Range) (range : ok g ≡ rangeBy mode ops) where
     pub range-inside : (g .from ≤ g .to) × (g .to ≤ length ops)
     range-inside = range-within (eqb mode K.StreamType) ops g (sym range)
 
-    pub target-backward : (i : ℕ) → found i ≡ firstBackward (length ops) 0 ops → no N.backward i ≡ rangeRow mode ops
-    target-backward i e = rw (← range, ← e)
-
     pub range-decided : nothing ≡ firstBackward (length ops) 0 ops → (b : Bool) → b ≡ isRow (parse (g .to - g .from) (opAt ops) false (g .from) (g .to))
         → cond b (ok g) (no N.crossed 0) ≡ rangeRow mode ops
-    range-decided e b k = rw (← range, ← e) (go b (parse (g .to - g .from) (opAt ops) false (g .from) (g .to)) k)
-      where
-        go : (b : Bool) (p : Parsed) → b ≡ isRow p → cond b (ok g) (no N.crossed 0)
-            ≡ andThen {A = Walkable} (andThen (orCrossed p) (λ r. ok (record { range = g; tree = r }))) (λ w. ok (w .range))
-        go true (row r) k = refl
-        go true crossed k = absurd (let z : _≡_ {A = ℕ} 0 1 = cc in omega arith)
-        go false (row r) k = absurd (let z : _≡_ {A = ℕ} 0 1 = cc in omega arith)
-        go false crossed k = refl
+    range-decided e b k =
+        rw (← range, ← e, k) (elim (parse (g .to - g .from) (opAt ops) false (g .from) (g .to)) as (λ p. cond (isRow p) (ok g) (no N.crossed 0)
+        ≡ andThen {A = Walkable} (andThen (orCrossed p) (λ r. ok (record { range = g; tree = r }))) (λ w. ok (w .range))) [ row r ↦ refl | crossed ↦ refl ])
 
 -- the chunk's row, where the tests hold
 pub range-row-ok : (c : Chunk) (g : Range) → rangeRow (c .type) (c .ops) ≡ ok g
     → (chunkRow c ≡ ok (treeOf (opAt (c .ops)) (g .from) (g .to))) × HasRow (opAt (c .ops)) false (g .from) (g .to)
     × (g .from ≤ g .to) × (g .to ≤ length (c .ops))
 range-row-ok c g e =
-    let w = from-ok (walkable (c .type) (c .ops)) _ e in
-    let h = from-ok (rangeOf c) _ (w .1) in
-    let u = from-ok (forwardTargets (c .ops)) _ (h .2) in
-    let t = from-ok (rowOf (c .ops) (h .0)) _ (u .2) in
-    told (w .0) (h .0) (t .0) (w .1) (h .1) (t .1) (t .2) (w .2)
-  where
-    told : (w : Walkable) (h : Range) (t : Row) → walkable (c .type) (c .ops) ≡ ok w → rangeOf c ≡ ok h → rowOf (c .ops) h ≡ ok t
-        → _≡_ {A = Result Walkable} (ok (record { range = h; tree = t })) (ok w) → ok (w .range) ≡ ok g
-        → (chunkRow c ≡ ok (treeOf (opAt (c .ops)) (g .from) (g .to))) × HasRow (opAt (c .ops)) false (g .from) (g .to)
-        × (g .from ≤ g .to) × (g .to ≤ length (c .ops))
-    told w h t walks a b made is =
-        let same : h ≡ g = cc in
-        let tree : w .tree ≡ t = cc in
-        let fits = range-within (eqb (c .type) K.StreamType) (c .ops) g (rw same at a) in
-        let row = row-some (c .ops) g t (fits .0) (rw same at b) in
-        (rw (walks, tree, tree-is (opAt (c .ops)) false (g .from) (g .to) t row), (t, row), fits .0, fits .1)
+    let (w, walks, is) = from-ok (walkable (c .type) (c .ops)) _ e in
+    let (h, a, f) = from-ok (rangeOf c) _ walks in
+    let (u, _, k) = from-ok (forwardTargets (c .ops)) _ f in
+    let (t, b, made) = from-ok (rowOf (c .ops) h) _ k in
+    let same : h ≡ g = cc in
+    let tree : w .tree ≡ t = cc in
+    let fits = range-within (eqb (c .type) K.StreamType) (c .ops) g (rw same at a) in
+    let row = row-some (c .ops) g t (fits .0) (subst (λ (x : Range). rowOf (c .ops) x ≡ ok t) same b) in
+    (rw (walks, tree, tree-is (opAt (c .ops)) false (g .from) (g .to) t row), (t, row), fits .0, fits .1)
 
 pub range-row-no : (c : Chunk) (n p : ℕ) → rangeRow (c .type) (c .ops) ≡ no n p → chunkRow c ≡ no n p
-range-row-no c n p e = go (walkable (c .type) (c .ops)) e
-  where
-    go : (r : Result Walkable) → andThen r (λ w. ok (w .range)) ≡ no n p → andThen r (λ w. ok (w .tree)) ≡ no n p
-    go (ok w) e = absurd (let z : _≡_ {A = ℕ} 0 1 = cc in omega arith)
-    go (no m q) e = let a : m ≡ n = cc in let b : q ≡ p = cc in rw (a, b)
+range-row-no c n p e =
+    (elim (walkable (c .type) (c .ops)) as (λ r. andThen r (λ w. ok (w .range)) ≡ no n p → andThen r (λ w. ok (w .tree)) ≡ no n p)
+    [ ok w ↦ λ e. absurd (let z : _≡_ {A = ℕ} 0 1 = cc in omega arith) | no m q ↦ λ e. cc ]) e

@@ -6,7 +6,6 @@ use mathlib.Core.List.{List, [], _∷_}
 use Prim.Native.Nat.{ℕ, suc, _+_, _<_, _≤_}
 use native.Mathlib.Numerals.{add-one}
 use native.Mathlib.Omega.{arith}
-use borrow.Author.Tests.{eq-eqb, ne-eqb}
 use lib.Dec.{eqb}
 use lib.ListN.{length, getD, drop, drop-of-length-le}
 use lib.Seq.{drop-cons}
@@ -15,26 +14,20 @@ use Rattle.rules.specs.Ops.{kind}
 use Rattle.rules.specs.Rows.{firstOf, isBackward, firstBackward}
 
 module _ (k : ℕ) (ops : List ℕ) (i : ℕ) where
-  pub first-here : i < length ops → kind (getD ops i 0) ≡ k → firstOf k (drop i ops) i ≡ found i
+  pub first-turn : i < length ops → {b : Bool} → eqb (kind (getD ops i 0)) k ≡ b
+      → firstOf k (drop i ops) i ≡ cond b (found i) (firstOf k (drop (i + 1) ops) (i + 1))
   unfolding firstOf
-  first-here h e = rw (drop-cons ops i 0) (simp (eq-eqb _ k e))
-
-  pub first-later : i < length ops → (kind (getD ops i 0) ≡ k → ⊥) → firstOf k (drop i ops) i ≡ firstOf k (drop (i + 1) ops) (i + 1)
-  unfolding firstOf
-  first-later h e = rw (add-one i, drop-cons ops i 0) (simp (ne-eqb _ k e))
+  first-turn h e = rw (add-one i, drop-cons ops i 0, e)
 
   pub first-none : length ops ≤ i → firstOf k (drop i ops) i ≡ nothing
   unfolding firstOf
   first-none h = rw (drop-of-length-le ops h)
 
 module _ (n : ℕ) (ops : List ℕ) (i : ℕ) where
-  pub backward-here : i < length ops → isBackward n i (getD ops i 0) ≡ true → firstBackward n i (drop i ops) ≡ found i
+  pub backward-turn : i < length ops → {b : Bool} → isBackward n i (getD ops i 0) ≡ b
+      → firstBackward n i (drop i ops) ≡ cond b (found i) (firstBackward n (i + 1) (drop (i + 1) ops))
   unfolding firstBackward
-  backward-here h e = rw (drop-cons ops i 0) (simp e)
-
-  pub backward-later : i < length ops → isBackward n i (getD ops i 0) ≡ false → firstBackward n i (drop i ops) ≡ firstBackward n (i + 1) (drop (i + 1) ops)
-  unfolding firstBackward
-  backward-later h e = rw (add-one i, drop-cons ops i 0) (simp e)
+  backward-turn h e = rw (add-one i, drop-cons ops i 0, e)
 
   pub backward-none : length ops ≤ i → firstBackward n i (drop i ops) ≡ nothing
   unfolding firstBackward
@@ -44,8 +37,6 @@ module _ (n : ℕ) (ops : List ℕ) (i : ℕ) where
 pub first-within : (k : ℕ) (ops : List ℕ) (i j : ℕ) → firstOf k ops i ≡ found j → j < i + length ops
 unfolding firstOf
 first-within k [] i j e = absurd (let z : _≡_ {A = ℕ} 0 1 = cc in omega arith)
-first-within k (w ∷ ws) i j e = go (eqb (kind w) k) e (first-within k ws (suc i) j)
-  where
-    go : (b : Bool) → cond b (found i) (firstOf k ws (suc i)) ≡ found j → (firstOf k ws (suc i) ≡ found j → j < suc i + length ws) → j < i + suc (length ws)
-    go true f later = let z : i ≡ j = cc in omega arith
-    go false f later = omega (arith, later f)
+first-within k (w ∷ ws) i j e =
+    (elim (eqb (kind w) k) as (λ b. cond b (found i) (firstOf k ws (suc i)) ≡ found j → j < i + suc (length ws))
+    [ true ↦ λ f. let z : i ≡ j = cc in omega arith | false ↦ λ f. omega (arith, first-within k ws (suc i) j f) ]) e

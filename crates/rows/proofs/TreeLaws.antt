@@ -6,11 +6,11 @@ use Prim.Native.Nat.{ℕ, suc, _-_, _<_, _≤_}
 use mathlib.Core.Logic.{_⊎_, inl, inr}
 use native.Mathlib.Numerals.{sub-one}
 use native.Mathlib.Omega.{arith}
-use borrow.Author.Tests.{eq-eqb}
+use borrow.Author.Tests.{eq-eqb, le-ltb}
 use Rattle.rules.specs.Ops.{kind, fieldA}
 use Rattle.rules.specs.Rows.{Shape, plain, trap, returns, ifTo, elseTo, endIf, loopTo, endLoop, breaks, breaksIf, calls, shapeOf}
-use Rattle.rules.specs.Rows.{Row, end, step, stop, leave, leaveIf, ifThen, ifElse, loop, Plain, Ending, IsRow}
-use Rattle.rules.proofs.Shapes.{shape-tells}
+use Rattle.rules.specs.Rows.{Row, end, step, stop, leave, leaveIf, ifThen, ifElse, loop, IsRow, parse}
+use Rattle.rules.proofs.Shapes.{shape-tells, by-plain, by-ending}
 use Rattle.rules.proofs.RowTree.{parse-complete, no-else-arm}
 use Rattle.rows.specs.Tree.{treeFound, treeOf}
 use Rattle.rows.specs.Opens.{Behind, BreakAt, IfAt, ElseAt, LoopAt}
@@ -22,12 +22,10 @@ with-loop op l i to (step j r) w = (w .0, w .1, w .2, with-loop op l (suc i) to 
 with-loop op l i to (stop j r) w = (w .0, w .1, w .2, with-loop op l (suc i) to r (w .3))
 with-loop op l i to (leave j r) w = (w .0, w .1, w .2, refl, with-loop op l (suc i) to r (w .4))
 with-loop op l i to (leaveIf j r) w = (w .0, w .1, w .2, refl, with-loop op l (suc i) to r (w .4))
-with-loop op l i to (ifThen j t p r) w =
-    (w .0, w .1, w .2, w .3, w .4, with-loop op l (suc i) t p (w .5), with-loop op l (suc t) to r (w .6))
+with-loop op l i to (ifThen j t p r) w = (w .0, w .1, w .2, w .3, w .4, with-loop op l _ _ p (w .5), with-loop op l _ _ r (w .6))
 with-loop op l i to (ifElse j e t p q r) w =
-    (w .0, w .1, w .2, w .3, w .4, w .5, w .6, with-loop op l (suc i) e p (w .7), with-loop op l (suc e) t q (w .8), with-loop op l (suc t) to r (w .9))
-with-loop op l i to (loop j e b r) w =
-    (w .0, w .1, w .2, w .3, w .4, w .5, with-loop op l (suc e) to r (w .6))
+    (w .0, w .1, w .2, w .3, w .4, w .5, w .6, with-loop op l _ _ p (w .7), with-loop op l _ _ q (w .8), with-loop op l _ _ r (w .9))
+with-loop op l i to (loop j e b r) w = (w .0, w .1, w .2, w .3, w .4, w .5, with-loop op l _ _ r (w .6))
 
 -- the tree of a row is the one that it has
 pub tree-is : (op : ℕ → ℕ) (l : Bool) (i to : ℕ) (r : Row) → IsRow op l i to r → treeOf op i to ≡ r
@@ -40,14 +38,11 @@ tree-empty op i = tree-is op true i i end refl
 
 -- a row that starts no earlier than it ends is empty
 pub row-end : (op : ℕ → ℕ) (l : Bool) (i to : ℕ) (r : Row) → IsRow op l i to r → to ≤ i → i ≡ to
-row-end op l i to end w h = w
-row-end op l i to (step j r) w h = omega arith
-row-end op l i to (stop j r) w h = omega arith
-row-end op l i to (leave j r) w h = omega arith
-row-end op l i to (leaveIf j r) w h = omega arith
-row-end op l i to (ifThen j t p r) w h = omega arith
-row-end op l i to (ifElse j e t p q r) w h = omega arith
-row-end op l i to (loop j e b r) w h = omega arith
+unfolding parse
+row-end op l i to r w h =
+    let p = simp (le-ltb i to h) at (parse-complete 0 op l i to r (omega arith) w) in
+    let none : r ≡ end = cc in
+    rw none at w
 
 -- What a row is, by the shape of its first op: its parts, and its tree made of theirs.
 module _ (op : ℕ → ℕ) (l : Bool) (i to : ℕ) where
@@ -64,32 +59,6 @@ module _ (op : ℕ → ℕ) (l : Bool) (i to : ℕ) where
   OpensAs breaksIf = BreakAt op l i to leaveIf
   OpensAs (calls k) = Behind op l i to step
 
-  as-plain : (s : Shape) → Plain s → Behind op l i to step → OpensAs s
-  as-plain plain p b = b
-  as-plain trap p b = absurd p
-  as-plain returns p b = absurd p
-  as-plain (ifTo t) p b = absurd p
-  as-plain (elseTo e) p b = absurd p
-  as-plain endIf p b = absurd p
-  as-plain (loopTo t) p b = absurd p
-  as-plain endLoop p b = absurd p
-  as-plain breaks p b = absurd p
-  as-plain breaksIf p b = absurd p
-  as-plain (calls k) p b = b
-
-  as-ending : (s : Shape) → Ending s → Behind op l i to stop → OpensAs s
-  as-ending plain p b = absurd p
-  as-ending trap p b = b
-  as-ending returns p b = b
-  as-ending (ifTo t) p b = absurd p
-  as-ending (elseTo e) p b = absurd p
-  as-ending endIf p b = absurd p
-  as-ending (loopTo t) p b = absurd p
-  as-ending endLoop p b = absurd p
-  as-ending breaks p b = absurd p
-  as-ending breaksIf p b = absurd p
-  as-ending (calls k) p b = absurd p
-
   behind : (first : ℕ → Row → Row) (j : ℕ) (r : Row) → IsRow op l i to (first j r) → j ≡ i → IsRow op l (suc i) to r → Behind op l i to first
   behind first j r w e v =
       let b = tree-is op l (suc i) to r v in
@@ -98,8 +67,8 @@ module _ (op : ℕ → ℕ) (l : Bool) (i to : ℕ) where
   -- a row that is not empty opens at its first op
   pub opens : (r : Row) → IsRow op l i to r → i < to → OpensAs (shapeOf (op i))
   opens end w lt = absurd (omega arith)
-  opens (step j r) w lt = as-plain (shapeOf (op i)) (w .2) (behind step j r w (w .0) (w .3))
-  opens (stop j r) w lt = as-ending (shapeOf (op i)) (w .2) (behind stop j r w (w .0) (w .3))
+  opens (step j r) w lt = let b = behind step j r w (w .0) (w .3) in by-plain OpensAs b (λ k. b) (shapeOf (op i)) (w .2)
+  opens (stop j r) w lt = let b = behind stop j r w (w .0) (w .3) in by-ending OpensAs b b (shapeOf (op i)) (w .2)
   opens (leave j r) w lt = rw (w .2) (record { in-loop = w .3; behind = behind leave j r w (w .0) (w .4) })
   opens (leaveIf j r) w lt = rw (w .2) (record { in-loop = w .3; behind = behind leaveIf j r w (w .0) (w .4) })
   opens (ifThen j t p r) w lt = rw (w .1) (inl (record {

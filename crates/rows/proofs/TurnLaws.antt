@@ -1,40 +1,26 @@
 -- What the decision at the first op of a stretch says of its rows: how a row goes on behind the op, or that there is none.
 -- Assumes nothing.
-use mathlib.Core.Path.{_≡_, refl, sym, ap, _∙_, subst}
-use mathlib.Core.Bool.{Bool, true, false, cond, _&&_, _||_}
-use mathlib.Core.Logic.{_⊎_, ⊎-elim, _↔_}
+use mathlib.Core.Path.{_≡_, refl, sym, ap, _∙_}
+use mathlib.Core.Bool.{Bool, true, false, cond, _&&_, _||_, and-eq-true-iff, true≢false}
+use mathlib.Core.Logic.{_⊎_, inl, inr, _↔_}
 use Prim.Native.Nat.{ℕ, suc, _-_, _<_, _≤_}
 use native.Mathlib.Omega.{arith}
-use borrow.Author.Tests.{ltb-true, ltb-false, leb-true, eqb-true, eqb-false, lt-ltb, le-ltb, le-leb}
+use borrow.Author.Tests.{ltb-true, ltb-false, leb-true, eqb-true, eqb-false, lt-ltb, le-leb}
 use lib.Dec.{eqb, leb, ltb}
 use Rattle.rules.specs.Ops.{kind, fieldA}
 use Rattle.rules.specs.Rows.{Shape, plain, trap, returns, ifTo, elseTo, endIf, loopTo, endLoop, breaks, breaksIf, calls, shapeOf}
-use Rattle.rules.specs.Rows.{step, stop, leave, leaveIf, ifThen, ifElse, loop}
-use Rattle.rules.proofs.Shapes.{shape-tells, end-if-shape, end-loop-shape, else-shape}
+use Rattle.rules.specs.Rows.{Row, step, stop, leave, leaveIf, ifThen, ifElse, loop, IsRow}
+use Rattle.rules.proofs.Shapes.{shape-tells, end-if-shape, end-loop-shape, else-shape, by-kind}
 use Rattle.rows.specs.declared.check.Opening.{Opening}
 use Rattle.rows.specs.declared.check.Opening.the-variants.{Plain, Block, Loop, Crossed}
 use Rattle.rows.specs.Tree.{HasRow}
-use Rattle.rows.specs.Answers.{blockIf, loopIf, opensIf, opensLoop, opensAt}
-use Rattle.rows.proofs.TreeLaws.{OpensAs, opens}
-use Rattle.rows.specs.Opens.{IfAt, ElseAt}
-
-both : (a b : Bool) → a && b ≡ true → (a ≡ true) × (b ≡ true)
-both true b e = (refl, e)
-both false b e = (e, cc)
-
-neither : (a b : Bool) → a || b ≡ false → (a ≡ false) × (b ≡ false)
-neither true b e = (e, cc)
-neither false b e = (refl, e)
+use Rattle.rows.specs.Opens.{BreakAt, IfAt, ElseAt}
+use Rattle.rows.specs.Answers.{blockIf, loopIf, opensIf, opensAt}
+use Rattle.rows.proofs.TreeLaws.{OpensAs}
+use Rattle.rows.proofs.Openings.{shaped}
 
 clash : {a : Bool} → a ≡ true → a ≡ false → ⊥
-clash p q = let z : _≡_ {A = ℕ} 0 1 = cc in omega arith
-
-by-equal : {P : Type 0} (m n : ℕ) → (m ≡ n → P) → ((m ≡ n → ⊥) → P) → P
-by-equal {P} m n same other = go (eqb m n) refl
-  where
-    go : (c : Bool) → eqb m n ≡ c → P
-    go true e = same (eqb-true m n e)
-    go false e = other (eqb-false m n e)
+clash p q = true≢false (sym p ∙ q)
 
 -- What is left behind the end e of a part, in a stretch that ends at b: an Else has its own part first.
 abbrev RestBy : Bool → (ℕ → ℕ) → Bool → ℕ → ℕ → Type 0
@@ -71,48 +57,21 @@ module _ (op : ℕ → ℕ) (l : Bool) (i b : ℕ) where
   Turn Crossed = HasRow op l i b → ⊥
 
   pub as-opened : (c : Bool) (e : ℕ) → Turn (opening c e) → Opened c e
-  as-opened true e t = t
-  as-opened false e t = t
+  as-opened c e = elim c as (λ c. Turn (opening c e) → Opened c e) [ true ↦ λ t. t | false ↦ λ t. t ]
+
+  -- the part ends at an EndIf or at an EndLoop
+  closed-at : (c : Bool) (e : ℕ) → i < e → e < b → eqb (kind (op e)) 25 ≡ c → eqb (kind (op e)) 22 ≡ false
+      → (HasRow op l i b ↔ (HasRow op (c || l) (suc i) e × HasRow op l (suc e) b)) → Opened c e
+  closed-at c e behind within k n s =
+      record { behind = behind; within = within; is-loop = k; fits = λ j. absurd (eqb-false _ 22 n j); split = rw n s }
+
+  -- a test of the decision
+  tested : (x : Bool → Opening) (t : Bool) → (t ≡ true → Turn (x true)) → (t ≡ false → Turn (x false)) → Turn (x t)
+  tested x t yes-then no-then = (elim t as (λ c. t ≡ c → Turn (x c)) [ true ↦ yes-then | false ↦ no-then ]) refl
 
   module _ (lt : i < b) where
     open-as : (s : Shape) → shapeOf (op i) ≡ s → HasRow op l i b → OpensAs op l i b s
-    open-as s e h = rw e at (opens op l i b (h .0) (h .1) lt)
-
-    -- an op outside of the kinds 21 to 27
-    far : (s : Shape) → shapeOf (op i) ≡ s → (21 ≤ kind (op i) → kind (op i) ≤ 27 → ⊥) → Turn Plain
-    far plain e n = (λ h. open-as plain e h .rest, λ h. (step i (h .0), (refl, lt, rw e tt, h .1)))
-    far trap e n = (λ h. open-as trap e h .rest, λ h. (stop i (h .0), (refl, lt, rw e tt, h .1)))
-    far returns e n = (λ h. open-as returns e h .rest, λ h. (stop i (h .0), (refl, lt, rw e tt, h .1)))
-    far (ifTo t) e n = let k = shape-tells (op i) (ifTo t) e in absurd (n (omega arith) (omega arith))
-    far (elseTo t) e n = let k = shape-tells (op i) (elseTo t) e in absurd (n (omega arith) (omega arith))
-    far endIf e n = let k = shape-tells (op i) endIf e in absurd (n (omega arith) (omega arith))
-    far (loopTo t) e n = let k = shape-tells (op i) (loopTo t) e in absurd (n (omega arith) (omega arith))
-    far endLoop e n = let k = shape-tells (op i) endLoop e in absurd (n (omega arith) (omega arith))
-    far breaks e n = let k = shape-tells (op i) breaks e in absurd (n (omega arith) (omega arith))
-    far breaksIf e n = let k = shape-tells (op i) breaksIf e in absurd (n (omega arith) (omega arith))
-    far (calls k) e n = (λ h. open-as (calls k) e h .rest, λ h. (step i (h .0), (refl, lt, rw e tt, h .1)))
-
-    -- a test of the decision
-    tested : (t : Bool) (x y : Opening) → (t ≡ true → Turn x) → (t ≡ false → Turn y) → Turn (cond t x y)
-    tested t x y yes-then no-then = go t refl
-      where
-        go : (c : Bool) → t ≡ c → Turn (cond c x y)
-        go true e = yes-then e
-        go false e = no-then e
-
-    block-if : (t : Bool) (e : ℕ) → (t ≡ true → Opened false e) → (t ≡ false → HasRow op l i b → ⊥) → Turn (blockIf t e)
-    block-if t e yes-then no-then = go t refl
-      where
-        go : (c : Bool) → t ≡ c → Turn (blockIf c e)
-        go true k = yes-then k
-        go false k = no-then k
-
-    loop-if : (t : Bool) (e : ℕ) → (t ≡ true → Opened true e) → (t ≡ false → HasRow op l i b → ⊥) → Turn (loopIf t e)
-    loop-if t e yes-then no-then = go t refl
-      where
-        go : (c : Bool) → t ≡ c → Turn (loopIf c e)
-        go true k = yes-then k
-        go false k = no-then k
+    open-as s e h = shaped op l i b h lt s e
 
     module _ (t : ℕ) (is-if : shapeOf (op i) ≡ ifTo t) where
       as-if : HasRow op l i b → IfAt op l i b t ⊎ ElseAt op l i b (t - 1) (fieldA (op (t - 1)))
@@ -120,10 +79,8 @@ module _ (op : ℕ → ℕ) (l : Bool) (i b : ℕ) where
 
       if-outside : ltb i t && leb t b ≡ false → HasRow op l i b → ⊥
       if-outside n h =
-          ⊎-elim
-          (λ o. clash (simp (lt-ltb i t (o .target), le-leb t b (omega arith))) n)
-          (λ o. clash (simp (lt-ltb i t (omega arith), le-leb t b (omega arith))) n)
-          (as-if h)
+          let p : (i < t) × (t ≤ b) = elim (as-if h) [ inl o ↦ omega arith | inr o ↦ omega arith ] in
+          clash (simp (lt-ltb i t (p .0), le-leb t b (p .1))) n
 
       -- an Else stands before the target
       module _ (is-else : eqb (kind (op (t - 1))) 22 ≡ true) where
@@ -131,8 +88,8 @@ module _ (op : ℕ → ℕ) (l : Bool) (i b : ℕ) where
         else-opened h y =
             let e = t - 1 in
             let f = fieldA (op e) in
-            let p = both (ltb e f && ltb f b) (eqb (kind (op f)) 23) y in
-            let q = both (ltb e f) (ltb f b) (p .0) in
+            let p = and-eq-true-iff (ltb e f && ltb f b) (eqb (kind (op f)) 23) .0 y in
+            let q = and-eq-true-iff (ltb e f) (ltb f b) .0 (p .0) in
             let k = eqb-true (kind (op e)) 22 is-else in
             let other : i ≡ e → ⊥ = λ same. let j = shape-tells (op i) (ifTo t) is-if .0 in let z : _≡_ {A = ℕ} 21 22 = cc in omega arith in
             let behind : i < e = omega arith in
@@ -145,113 +102,88 @@ module _ (op : ℕ → ℕ) (l : Bool) (i b : ℕ) where
               within = omega arith;
               is-loop = simp k;
               fits = λ _. record { behind = after; within = before; closed = closed };
-              split = (
-                λ r. ⊎-elim (λ o. absurd (clash is-else (o .no-else))) (λ o. (o .arm, rw is-else (o .other, o .rest))) (as-if r),
-                λ r. let s : HasRow op l (suc e) f × HasRow op l (suc f) b = rw is-else at (r .1) in (
-                  ifElse i e f (r .0 .0) (s .0 .0) (s .1 .0),
-                  (refl, is-if ∙ ap ifTo target, behind, after, before, else-shape (op e) k, end-if-shape (op f) closed, r .0 .1, s .0 .1, s .1 .1),
+              split = rw is-else (
+                λ r. elim (as-if r) [ inl o ↦ absurd (clash is-else (o .no-else)) | inr o ↦ (o .arm, (o .other, o .rest)) ],
+                λ (p, r). (
+                  ifElse i e f (p .0) (r .0 .0) (r .1 .0),
+                  (refl, is-if ∙ ap ifTo target, behind, after, before, else-shape (op e) k, end-if-shape (op f) closed, p .1, r .0 .1, r .1 .1),
                 ),
               );
             }
 
         else-crossed : let f = fieldA (op (t - 1)) in ltb (t - 1) f && ltb f b && eqb (kind (op f)) 23 ≡ false → HasRow op l i b → ⊥
-        else-crossed y h =
-            ⊎-elim
-            (λ o. clash is-else (o .no-else))
-            (λ o. clash (simp (lt-ltb _ _ (o .else-behind), lt-ltb _ _ (o .within), o .closed)) y)
-            (as-if h)
+        else-crossed y h = elim (as-if h) [
+          | inl o ↦ clash is-else (o .no-else)
+          | inr o ↦ clash (simp (lt-ltb _ _ (o .else-behind), lt-ltb _ _ (o .within), o .closed)) y
+        ]
 
       module _ (no-else : eqb (kind (op (t - 1))) 22 ≡ false) where
         end-opened : i < t → ltb t b && eqb (kind (op t)) 23 ≡ true → Opened false t
         end-opened h y =
-            let p = both (ltb t b) (eqb (kind (op t)) 23) y in
+            let p = and-eq-true-iff (ltb t b) (eqb (kind (op t)) 23) .0 y in
             let before = ltb-true t b (p .0) in
             let closed = eqb-true (kind (op t)) 23 (p .1) in
-            let z : eqb (kind (op t)) 22 ≡ false = simp closed in
-            record {
-              behind = h;
-              within = before;
-              is-loop = simp closed;
-              fits = λ k. absurd (omega arith);
-              split = (
-                λ r. ⊎-elim (λ o. (o .arm, rw z (o .rest))) (λ o. absurd (clash (o .is-else) no-else)) (as-if r),
-                λ r. let s : HasRow op l (suc t) b = rw z at (r .1) in
-                    (ifThen i t (r .0 .0) (s .0), (refl, is-if, h, before, end-if-shape (op t) closed, r .0 .1, s .1)),
-              );
-            }
+            closed-at false t h before (simp closed) (simp closed) (
+              λ r. elim (as-if r) [ inl o ↦ (o .arm, o .rest) | inr o ↦ absurd (clash (o .is-else) no-else) ],
+              λ (p, r). (ifThen i t (p .0) (r .0), (refl, is-if, h, before, end-if-shape (op t) closed, p .1, r .1)),
+            )
 
         end-crossed : ltb t b && eqb (kind (op t)) 23 ≡ false → HasRow op l i b → ⊥
-        end-crossed y h =
-            ⊎-elim (λ o. clash (simp (lt-ltb t b (o .within), o .closed)) y) (λ o. clash (o .is-else) no-else) (as-if h)
+        end-crossed y h = elim (as-if h) [ inl o ↦ clash (simp (lt-ltb t b (o .within), o .closed)) y | inr o ↦ clash (o .is-else) no-else ]
 
       if-turn : Turn (opensIf op i t b)
       if-turn =
-          tested (ltb i t && leb t b) _ _
-          (λ a. let h = ltb-true i t (both (ltb i t) (leb t b) a .0) in tested (eqb (kind (op (t - 1))) 22) _ _
-          (λ e. block-if _ (t - 1) (else-opened e h) (else-crossed e))
-          (λ e. block-if _ t (end-opened e h) (end-crossed e)))
-          if-outside
+          tested (λ _. opensIf op i t b) (ltb i t && leb t b)
+          (λ a. let h = ltb-true i t (and-eq-true-iff (ltb i t) (leb t b) .0 a .0) in tested (λ _. opensIf op i t b) (eqb (kind (op (t - 1))) 22)
+          (λ e. rw (a, e) (tested (λ c. blockIf c (t - 1)) _ (else-opened e h) (else-crossed e)))
+          (λ e. rw (a, e) (tested (λ c. blockIf c t) _ (end-opened e h) (end-crossed e))))
+          (λ a. rw a (if-outside a))
 
     module _ (t : ℕ) (is-loop : shapeOf (op i) ≡ loopTo t) where
       loop-opened : ltb (suc i) t && leb t b && eqb (kind (op (t - 1))) 25 ≡ true → Opened true (t - 1)
       loop-opened y =
           let e = t - 1 in
-          let p = both (ltb (suc i) t && leb t b) (eqb (kind (op e)) 25) y in
-          let q = both (ltb (suc i) t) (leb t b) (p .0) in
+          let p = and-eq-true-iff (ltb (suc i) t && leb t b) (eqb (kind (op e)) 25) .0 y in
+          let q = and-eq-true-iff (ltb (suc i) t) (leb t b) .0 (p .0) in
           let first = ltb-true (suc i) t (q .0) in
           let last = leb-true t b (q .1) in
           let behind : i < e = omega arith in
           let before : e < b = omega arith in
           let closed = eqb-true (kind (op e)) 25 (p .1) in
-          let z : eqb (kind (op e)) 22 ≡ false = simp closed in
           let target : t ≡ suc e = omega arith in
-          record {
-            behind = behind;
-            within = before;
-            is-loop = p .1;
-            fits = λ k. absurd (omega arith);
-            split = (
-              λ r. let o = open-as (loopTo t) is-loop r in (o .body, rw z (o .rest)),
-              λ r. let s : HasRow op l (suc e) b = rw z at (r .1) in
-                  (loop i e (r .0 .0) (s .0), (refl, is-loop ∙ ap loopTo target, behind, before, end-loop-shape (op e) closed, r .0 .1, s .1)),
-            );
-          }
+          closed-at true e behind before (p .1) (simp closed) (
+            λ r. let o = open-as (loopTo t) is-loop r in (o .body, o .rest),
+            λ (p, r). (loop i e (p .0) (r .0), (refl, is-loop ∙ ap loopTo target, behind, before, end-loop-shape (op e) closed, p .1, r .1)),
+          )
 
       loop-crossed : ltb (suc i) t && leb t b && eqb (kind (op (t - 1))) 25 ≡ false → HasRow op l i b → ⊥
       loop-crossed y h =
           let o = open-as (loopTo t) is-loop h in
           clash (simp (lt-ltb (suc i) t (omega arith), le-leb t b (omega arith), o .closed)) y
 
-      loop-turn : Turn (opensLoop op i t b)
-      loop-turn = loop-if _ (t - 1) loop-opened loop-crossed
-
-    -- Break and BreakIf in a Loop
-    break-turn : 26 ≤ kind (op i) → kind (op i) ≤ 27 → l ≡ true → Turn Plain
-    break-turn a c in-loop =
-        by-equal (kind (op i)) 26
-        (λ k. let s : shapeOf (op i) ≡ breaks = simp k in (λ h. open-as breaks s h .behind .rest, λ h. (leave i (h .0), (refl, lt, s, in-loop, h .1))))
-        (λ n. let k : kind (op i) ≡ 27 = omega arith in let s : shapeOf (op i) ≡ breaksIf = simp k in
-        (λ h. open-as breaksIf s h .behind .rest, λ h. (leaveIf i (h .0), (refl, lt, s, in-loop, h .1))))
-
-    -- Else, EndIf and EndLoop, and Break and BreakIf outside of a Loop
-    no-turn : 21 < kind (op i) → kind (op i) ≤ 27 → (kind (op i) ≡ 24 → ⊥) → leb 26 (kind (op i)) && l ≡ false → HasRow op l i b → ⊥
-    no-turn a c d outside h =
-        by-equal (kind (op i)) 22 (λ k. open-as (elseTo (fieldA (op i))) (else-shape (op i) k) h)
-        (λ n₁. by-equal (kind (op i)) 23 (λ k. open-as endIf (end-if-shape (op i) k) h)
-        (λ n₂. by-equal (kind (op i)) 25 (λ k. open-as endLoop (end-loop-shape (op i) k) h)
-        (λ n₃. by-equal (kind (op i)) 26 (λ k. clash (simp (k, open-as breaks (simp k) h .in-loop)) outside)
-        (λ n₄. let k : kind (op i) ≡ 27 = omega arith in clash (simp (k, open-as breaksIf (simp k) h .in-loop)) outside))))
+    -- Break and BreakIf, which stand in a Loop
+    break-turn : (first : ℕ → Row → Row) → (HasRow op l i b → BreakAt op l i b first)
+        → ((r : Row) → l ≡ true → IsRow op l (suc i) b r → IsRow op l i b (first i r)) → Turn (cond l Plain Crossed)
+    break-turn first goes back =
+        tested (λ c. cond c Plain Crossed) l (λ y. (λ h. goes h .behind .rest, λ h. (first i (h .0), back (h .0) y (h .1))))
+        (λ n h. clash (goes h .in-loop) n)
 
     pub turn : Turn (opensAt op i b l)
     turn =
-        tested (ltb (kind (op i)) 21 || ltb 27 (kind (op i))) _ _ (λ x. far (shapeOf (op i)) refl (λ p q. clash x (simp (le-ltb _ 21 p, le-ltb 27 _ q))))
-        (λ x. let n = neither (ltb (kind (op i)) 21) (ltb 27 (kind (op i))) x in tested (eqb (kind (op i)) 21) _ _
-        (λ y. if-turn (fieldA (op i)) (simp (eqb-true (kind (op i)) 21 y)))
-        (λ y. tested (eqb (kind (op i)) 24) _ _
-        (λ z. loop-turn (fieldA (op i)) (simp (eqb-true (kind (op i)) 24 z)))
-        (λ z. let k = kind (op i) in let a = ltb-false k 21 (n .0) in let c = ltb-false 27 k (n .1) in let d = eqb-false k 21 y in tested (leb 26 k && l) _ _
-        (λ u. let p = both (leb 26 k) l u in break-turn (leb-true 26 k (p .0)) c (p .1))
-        (no-turn (omega arith) c (eqb-false k 24 z)))))
-
-    pub opened-at : (c : Bool) (e : ℕ) → opening c e ≡ opensAt op i b l → Opened c e
-    opened-at c e k = as-opened c e (subst Turn (sym k) turn)
+        by-kind (op i) (λ s. shapeOf (op i) ≡ s → Turn (opensAt op i b l))
+        (λ k e. rw k (if-turn (fieldA (op i)) e))
+        (λ k e. rw k (open-as (elseTo (fieldA (op i))) e))
+        (λ k e. rw k (open-as endIf e))
+        (λ k e. rw k (tested (λ c. loopIf c (fieldA (op i) - 1)) _ (loop-opened (fieldA (op i)) e) (loop-crossed (fieldA (op i)) e)))
+        (λ k e. rw k (open-as endLoop e))
+        (λ k e. rw k (break-turn leave (open-as breaks e) (λ r y w. (refl, lt, e, y, w))))
+        (λ k e. rw k (break-turn leaveIf (open-as breaksIf e) (λ r y w. (refl, lt, e, y, w))))
+        (λ k e. rw k (λ h. open-as (calls (fieldA (op i))) e h .rest, λ h. (step i (h .0), (refl, lt, rw e tt, h .1))))
+        (λ k e. rw k (λ h. open-as returns e h .rest, λ h. (stop i (h .0), (refl, lt, rw e tt, h .1))))
+        (λ k e. rw k (λ h. open-as trap e h .rest, λ h. (stop i (h .0), (refl, lt, rw e tt, h .1))))
+        (λ n e. rw (far (kind (op i)) n) (λ h. open-as plain e h .rest, λ h. (step i (h .0), (refl, lt, rw e tt, h .1)))) refl
+      where
+        far : (k : ℕ) → (21 ≤ k → k ≤ 27 → ⊥) → ltb k 21 || ltb 27 k ≡ true
+        far k n =
+            (elim (ltb k 21) as (λ c. ltb k 21 ≡ c → c || ltb 27 k ≡ true)
+            [ true ↦ λ _. refl | false ↦ λ e. let p = n (ltb-false k 21 e) in lt-ltb 27 k (omega arith) ]) refl

@@ -1,9 +1,11 @@
 -- What the shape of an op tells of its word, and the other way. Assumes nothing.
 use mathlib.Core.Path.{_≡_, refl}
 use mathlib.Core.Bool.{Bool, true, false, cond}
-use Prim.Native.Nat.{ℕ}
+use Prim.Native.Nat.{ℕ, suc, _≤_}
+use native.Mathlib.Omega.{arith}
 use lib.Dec.{eqb}
-use borrow.Author.Tests.{eqb-true}
+use borrow.Author.Tests.{eqb-true, eqb-false}
+use Rattle.rules.specs.Kinds as K
 use Rattle.rules.specs.Ops.{kind, fieldA}
 use Rattle.rules.specs.Rows.{Shape, plain, trap, returns, ifTo, elseTo, endIf, loopTo, endLoop, breaks, breaksIf, calls, shapeOf}
 use Rattle.rules.specs.Rows.{Plain, Ending}
@@ -11,67 +13,72 @@ use Rattle.rules.specs.Rows.{Plain, Ending}
 -- the word's kind, and its field a where the shape holds a number
 abbrev pub Tells : ℕ → Shape → Type 0
 Tells w plain = Unit {0}
-Tells w trap = kind w ≡ 50
-Tells w returns = kind w ≡ 31
-Tells w (ifTo t) = (kind w ≡ 21) × (fieldA w ≡ t)
-Tells w (elseTo t) = (kind w ≡ 22) × (fieldA w ≡ t)
-Tells w endIf = kind w ≡ 23
-Tells w (loopTo t) = (kind w ≡ 24) × (fieldA w ≡ t)
-Tells w endLoop = kind w ≡ 25
-Tells w breaks = kind w ≡ 26
-Tells w breaksIf = kind w ≡ 27
-Tells w (calls k) = (kind w ≡ 30) × (fieldA w ≡ k)
+Tells w trap = kind w ≡ K.Trap
+Tells w returns = kind w ≡ K.Return
+Tells w (ifTo t) = (kind w ≡ K.If) × (fieldA w ≡ t)
+Tells w (elseTo t) = (kind w ≡ K.Else) × (fieldA w ≡ t)
+Tells w endIf = kind w ≡ K.EndIf
+Tells w (loopTo t) = (kind w ≡ K.Loop) × (fieldA w ≡ t)
+Tells w endLoop = kind w ≡ K.EndLoop
+Tells w breaks = kind w ≡ K.Break
+Tells w breaksIf = kind w ≡ K.BreakIf
+Tells w (calls k) = (kind w ≡ K.Call) × (fieldA w ≡ k)
 
 module _ (w : ℕ) where
-  -- one test of the kind
-  tested : (k : ℕ) (s t : Shape) → (kind w ≡ k → Tells w s) → Tells w t → Tells w (cond (eqb (kind w) k) s t)
-  tested k s t yes-then no-then = go (eqb (kind w) k) refl
+  -- what holds of the shape, by the kind; a plain op may be of any kind but those of the shapes of rows
+  pub by-kind : (P : Shape → Type 0) → (kind w ≡ K.If → P (ifTo (fieldA w))) → (kind w ≡ K.Else → P (elseTo (fieldA w))) → (kind w ≡ K.EndIf → P endIf)
+      → (kind w ≡ K.Loop → P (loopTo (fieldA w))) → (kind w ≡ K.EndLoop → P endLoop) → (kind w ≡ K.Break → P breaks) → (kind w ≡ K.BreakIf → P breaksIf)
+      → (kind w ≡ K.Call → P (calls (fieldA w))) → (kind w ≡ K.Return → P returns) → (kind w ≡ K.Trap → P trap)
+      → ((K.If ≤ kind w → kind w ≤ K.BreakIf → ⊥) → P plain) → P (shapeOf w)
+  by-kind P a b c d e f g h j k m =
+      by K.If (λ p q. p) a (λ n. by K.Else n b (λ n. by K.EndIf n c (λ n. by K.Loop n d (λ n. by K.EndLoop n e (λ n. by K.Break n f (λ n. by K.BreakIf n g (λ n.
+      by K.Call (λ p q. omega (arith, n p q)) h (λ n. by K.Return n j (λ n. by K.Trap (λ p q. omega (arith, n p q)) k (λ n. m (λ p q. omega (arith, n p q))))))))))))
     where
-      go : (b : Bool) → eqb (kind w) k ≡ b → Tells w (cond b s t)
-      go true e = yes-then (eqb-true (kind w) k e)
-      go false e = no-then
+      by : (k : ℕ) {s t : Shape} → (K.If ≤ kind w → kind w ≤ K.BreakIf → k ≤ kind w) → (kind w ≡ k → P s) → ((K.If ≤ kind w → kind w ≤ K.BreakIf → suc k ≤ kind w) → P t)
+          → P (cond (eqb (kind w) k) s t)
+      by k {s} {t} low y n =
+          (elim (eqb (kind w) k) as (λ c. eqb (kind w) k ≡ c → P (cond c s t))
+          [ true ↦ λ e. y (eqb-true _ k e) | false ↦ λ e. n (λ p q. let m = eqb-false (kind w) k e in omega (arith, low p q)) ]) refl
 
   tells : Tells w (shapeOf w)
   tells =
-      tested 21 _ _ (λ h. (h, refl)) (tested 22 _ _ (λ h. (h, refl)) (tested 23 _ _ (λ h. h) (tested 24 _ _ (λ h. (h, refl))
-      (tested 25 _ _ (λ h. h) (tested 26 _ _ (λ h. h) (tested 27 _ _ (λ h. h) (tested 30 _ _ (λ h. (h, refl))
-      (tested 31 _ _ (λ h. h) (tested 50 _ _ (λ h. h) tt)))))))))
+      by-kind (Tells w) (λ h. (h, refl)) (λ h. (h, refl)) (λ h. h) (λ h. (h, refl)) (λ h. h) (λ h. h) (λ h. h) (λ h. (h, refl)) (λ h. h) (λ h. h) (λ n. tt)
 
   pub shape-tells : (s : Shape) → shapeOf w ≡ s → Tells w s
   shape-tells s e = rw e at tells
 
-  pub end-if-shape : kind w ≡ 23 → shapeOf w ≡ endIf
+  pub end-if-shape : kind w ≡ K.EndIf → shapeOf w ≡ endIf
   end-if-shape h = simp h
 
-  pub end-loop-shape : kind w ≡ 25 → shapeOf w ≡ endLoop
+  pub end-loop-shape : kind w ≡ K.EndLoop → shapeOf w ≡ endLoop
   end-loop-shape h = simp h
 
-  pub else-shape : kind w ≡ 22 → shapeOf w ≡ elseTo (fieldA w)
+  pub else-shape : kind w ≡ K.Else → shapeOf w ≡ elseTo (fieldA w)
   else-shape h = simp h
 
--- A plain op is a Call or of no other shape; the ops that end a row are Trap and Return.
+-- what holds of every plain op, and of every one that ends a row
 pub by-plain : (P : Shape → Type 0) → P plain → ((k : ℕ) → P (calls k)) → (s : Shape) → Plain s → P s
-by-plain P p c plain h = p
-by-plain P p c trap h = absurd h
-by-plain P p c returns h = absurd h
-by-plain P p c (ifTo t) h = absurd h
-by-plain P p c (elseTo t) h = absurd h
-by-plain P p c endIf h = absurd h
-by-plain P p c (loopTo t) h = absurd h
-by-plain P p c endLoop h = absurd h
-by-plain P p c breaks h = absurd h
-by-plain P p c breaksIf h = absurd h
-by-plain P p c (calls k) h = c k
+by-plain P a b plain h = a
+by-plain P a b trap h = absurd h
+by-plain P a b returns h = absurd h
+by-plain P a b (ifTo t) h = absurd h
+by-plain P a b (elseTo e) h = absurd h
+by-plain P a b endIf h = absurd h
+by-plain P a b (loopTo t) h = absurd h
+by-plain P a b endLoop h = absurd h
+by-plain P a b breaks h = absurd h
+by-plain P a b breaksIf h = absurd h
+by-plain P a b (calls k) h = b k
 
 pub by-ending : (P : Shape → Type 0) → P trap → P returns → (s : Shape) → Ending s → P s
-by-ending P t r plain h = absurd h
-by-ending P t r trap h = t
-by-ending P t r returns h = r
-by-ending P t r (ifTo u) h = absurd h
-by-ending P t r (elseTo u) h = absurd h
-by-ending P t r endIf h = absurd h
-by-ending P t r (loopTo u) h = absurd h
-by-ending P t r endLoop h = absurd h
-by-ending P t r breaks h = absurd h
-by-ending P t r breaksIf h = absurd h
-by-ending P t r (calls k) h = absurd h
+by-ending P a b plain h = absurd h
+by-ending P a b trap h = a
+by-ending P a b returns h = b
+by-ending P a b (ifTo t) h = absurd h
+by-ending P a b (elseTo e) h = absurd h
+by-ending P a b endIf h = absurd h
+by-ending P a b (loopTo t) h = absurd h
+by-ending P a b endLoop h = absurd h
+by-ending P a b breaks h = absurd h
+by-ending P a b breaksIf h = absurd h
+by-ending P a b (calls k) h = absurd h

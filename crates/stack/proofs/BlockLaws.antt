@@ -1,12 +1,11 @@
 -- What the walk behind an If, an Else and a Loop gives, from what it asks and what its parts gave: positions counted as the code does.
 -- Assumes nothing.
-use mathlib.Core.Path.{_≡_, refl, _∙_, subst}
+use mathlib.Core.Path.{_≡_, refl, _∙_}
 use mathlib.Core.Bool.{Bool, true, false}
 use mathlib.Core.List.{List}
-use Prim.Native.Nat.{ℕ, suc, _+_, _-_, _*_, _<_, _≤_, max}
+use Prim.Native.Nat.{ℕ, suc, _+_, _*_, _<_, _≤_, max}
 use native.Mathlib.Numerals.{add-one}
 use native.Mathlib.Omega.{arith}
-use Rattle.rules.specs.Outcome.{ok, no}
 use Rattle.rules.specs.Reading.{constantsOf}
 use Rattle.rules.specs.Count.{countAt, countOf}
 use Rattle.rules.specs.Stack as R
@@ -21,8 +20,8 @@ use Rattle.stack.specs.declared.region.Walk as W
 use Rattle.stack.specs.declared.region.Step.{Step}
 use Rattle.stack.specs.declared.region.Step.the-variants.{Goes, Refused}
 use Rattle.stack.specs.Levels.{chunkOf, raisedTo, markedAs, heightOf, endsAt, Small}
-use Rattle.stack.specs.Steps.{PartFits, PartMeans, IfMeans, ElseMeans, LoopMeans, regionHeight, partHeight, stepResult, joined, passedOnce}
-use Rattle.stack.proofs.BoundLaws.{height-more, ends-small, joined-onward, raised-onward, once-onward}
+use Rattle.stack.specs.Steps.{PartFits, PartMeans, Onward, IfMeans, ElseMeans, LoopMeans, regionHeight, stepResult, joined, passedOnce}
+use Rattle.stack.proofs.BoundLaws.{height-more, ends-small, joined-onward, once-onward}
 use Rattle.stack.proofs.StackLaws as L
 
 -- a part of a block behind the op at i, from the level behind that op with any mark
@@ -30,104 +29,72 @@ pub block-part : {ops : List ℕ} {i from end : ℕ} {l m : Level} {broken : Boo
     → i < from → from ≤ end → PartFits ops from end m
 block-part r s same lt le = rw same (record { ordered = le; row = r; small = record { offset = omega arith; peak = omega arith } })
 
--- an If at i with EndIf at t
-module _ {ops : List ℕ} {i t to : ℕ} (h : IfFits ops i t to) (l : Level) where
-  module _ (constants callees : List ℕ) (left : ℕ) (r : W.Walk) (walked : PartMeans constants ops callees (i + 1) t left l r) where
-    pub if-refused : {n p : ℕ} → r ≡ W.the-variants.Refused n p → IfMeans constants ops callees i t to left l (Refused n p)
-    if-refused {n} {p} e =
-        let w : no n p ≡ partHeight (chunkOf 0 constants ops) callees (suc i) t left (l .offset) (l .broken) = rw (e, add-one) at (walked .0) in
-        (rw (← w), tt)
+-- the walk of a part behind the op at i that ends at `end`, with its answer
+pub walked-as : (constants ops callees : List ℕ) (i end left : ℕ) (l : Level) {m : Level} {broken : Bool} {r x : W.Walk} → m ≡ markedAs l broken → r ≡ x
+    → PartMeans constants ops callees (i + 1) end left m r → PartMeans constants ops callees (suc i) end left (markedAs l broken) x
+walked-as constants ops callees i end left l same e w = rw (same, e, add-one i) at w
 
-    pub if-joins : {arm : Height} {before : R.Height} → r ≡ W.the-variants.Done arm → before ≡ endsAt l → (k : Step) → k ≡ joined t l before (heightOf arm)
-        → IfMeans constants ops callees i t to left l k
-    if-joins {arm} e b k is =
-        let w : ok (heightOf arm) ≡ partHeight (chunkOf 0 constants ops) callees (suc i) t left (l .offset) (l .broken) = rw (e, add-one) at (walked .0) in
-        let twice : max (l .peak .0) (l .peak .0) ≡ l .peak .0 = omega arith in
-        let s = rw b at is in
-        rw s (
-          L.joined-means constants ops callees t to left l (endsAt l) (heightOf arm) ∙ rw (← w, twice),
-          joined-onward ops i t to l (h .at .target) (h .at .within) (h .at .rest) (endsAt l) (heightOf arm)
-              (λ b s. (height-more (ends-small s) (omega arith), rw (e, add-one) at (walked .1 b (s .offset)))),
-        )
+-- an If at i with EndIf at t
+pub if-joins : {ops : List ℕ} {i t to : ℕ} → IfFits ops i t to → (l : Level) (constants callees : List ℕ) (left : ℕ) (r : W.Walk)
+    → PartMeans constants ops callees (i + 1) t left l r → {arm : Height} {before : R.Height} → r ≡ W.the-variants.Done arm → before ≡ endsAt l
+    → (k : Step) → k ≡ joined t l before (heightOf arm) → IfMeans constants ops callees i t to left l k
+if-joins {ops} {i} {t} {to} h l constants callees left r walked {arm} e b k is =
+    let w = walked-as constants ops callees i t left l refl e walked in
+    let twice : max (l .peak .0) (l .peak .0) ≡ l .peak .0 = omega arith in
+    let s = rw b at is in
+    rw s (
+      L.joined-means constants ops callees t to left l (endsAt l) (heightOf arm) ∙ rw (← w .0, twice),
+      joined-onward ops i t to l (h .at .target) (h .at .within) (h .at .rest) (endsAt l) (heightOf arm)
+          (λ b s. (height-more (ends-small s) (omega arith), w .1 b (s .offset))),
+    )
 
 -- an If at i with Else at e and EndIf at f
-module _ {ops : List ℕ} {i e f to : ℕ} (h : ElseFits ops i e f to) (l : Level) where
-  module _ (constants callees : List ℕ) (left : ℕ) (r : W.Walk) (walked : PartMeans constants ops callees (i + 1) e left l r) where
-    pub else-refused : {n p : ℕ} → r ≡ W.the-variants.Refused n p → ElseMeans constants ops callees i e f to left l (Refused n p)
-    else-refused {n} {p} z =
-        let w : no n p ≡ partHeight (chunkOf 0 constants ops) callees (suc i) e left (l .offset) (l .broken) = rw (z, add-one) at (walked .0) in
-        (rw (← w), tt)
+module _ {ops : List ℕ} {i e f to : ℕ} (h : ElseFits ops i e f to) (l : Level) (constants callees : List ℕ) (left : ℕ) (r : W.Walk)
+    (walked : PartMeans constants ops callees (i + 1) e left l r) {arm : Height} (done : r ≡ W.the-variants.Done arm) {again : Level}
+    (same : again ≡ markedAs l (arm .broken)) (s : W.Walk) (walked-again : PartMeans constants ops callees (e + 1) f left again s) where
+  first : PartMeans constants ops callees (suc i) e left l (W.the-variants.Done arm)
+  first = walked-as constants ops callees i e left l refl done walked
 
-    module _ {arm : Height} (done : r ≡ W.the-variants.Done arm) {again : Level} (same : again ≡ markedAs l (arm .broken)) (s : W.Walk)
-        (walked-again : PartMeans constants ops callees (e + 1) f left again s) where
-      second : PartMeans constants ops callees (e + 1) f left (markedAs l (arm .broken)) s
-      second = subst (λ (m : Level). PartMeans constants ops callees (e + 1) f left m s) same walked-again
+  second : {x : W.Walk} → s ≡ x → PartMeans constants ops callees (suc e) f left (markedAs l (arm .broken)) x
+  second z = walked-as constants ops callees e f left l same z walked-again
 
-      first-is : ok (heightOf arm) ≡ partHeight (chunkOf 0 constants ops) callees (suc i) e left (l .offset) (l .broken)
-      first-is = rw (done, add-one) at (walked .0)
+  pub else-refused-second : {n p : ℕ} → s ≡ W.the-variants.Refused n p → ElseMeans constants ops callees i e f to left l (Refused n p)
+  else-refused-second z = let v = second z in (rw (← first .0, ← v .0), tt)
 
-      pub else-refused-second : {n p : ℕ} → s ≡ W.the-variants.Refused n p → ElseMeans constants ops callees i e f to left l (Refused n p)
-      else-refused-second {n} {p} z =
-          let v : no n p ≡ partHeight (chunkOf 0 constants ops) callees (suc e) f left (l .offset) (arm .broken) = rw (z, add-one) at (second .0) in
-          (rw (← first-is, ← v), tt)
-
-      pub else-joins : {other : Height} → s ≡ W.the-variants.Done other → (k : Step) → k ≡ joined f l (heightOf arm) (heightOf other)
-          → ElseMeans constants ops callees i e f to left l k
-      else-joins {other} z k is =
-          let v : ok (heightOf other) ≡ partHeight (chunkOf 0 constants ops) callees (suc e) f left (l .offset) (arm .broken) =
-          rw (z, add-one) at (second .0) in
-          let w = else-within h in
-          rw is (
-            L.joined-means constants ops callees f to left l (heightOf arm) (heightOf other) ∙ rw (← first-is, ← v),
-            joined-onward ops i f to l (omega arith) (omega arith) (h .at .rest) (heightOf arm) (heightOf other)
-                (λ b m. (
-                  height-more (rw (done, add-one) at (walked .1 b (m .offset))) (omega arith),
-                  height-more (rw (z, add-one) at (second .1 b (m .offset))) (omega arith),
-                )),
-          )
+  pub else-joins : {other : Height} → s ≡ W.the-variants.Done other → (k : Step) → k ≡ joined f l (heightOf arm) (heightOf other)
+      → ElseMeans constants ops callees i e f to left l k
+  else-joins {other} z k is =
+      let v = second z in
+      let w = else-within h in
+      rw is (
+        L.joined-means constants ops callees f to left l (heightOf arm) (heightOf other) ∙ rw (← first .0, ← v .0),
+        joined-onward ops i f to l (omega arith) (omega arith) (h .at .rest) (heightOf arm) (heightOf other)
+            (λ b m. (height-more (first .1 b (m .offset)) (omega arith), height-more (v .1 b (m .offset)) (omega arith))),
+      )
 
 -- a Loop at i with EndLoop at e
-module _ {ops : List ℕ} {i e to : ℕ} (h : LoopFits ops i e to) (l : Level) where
-  module _ (constants callees : List ℕ) (left : ℕ) {inside : Level} (same : inside ≡ markedAs l false) (r : W.Walk)
-      (walked-inside : PartMeans constants ops callees (i + 1) e left inside r) where
-    walked : PartMeans constants ops callees (i + 1) e left (markedAs l false) r
-    walked = subst (λ (m : Level). PartMeans constants ops callees (i + 1) e left m r) same walked-inside
+module _ {ops : List ℕ} {i e to : ℕ} (h : LoopFits ops i e to) (l : Level) (constants callees : List ℕ) (left : ℕ) {inside : Level}
+    (same : inside ≡ markedAs l false) (r : W.Walk) (walked : PartMeans constants ops callees (i + 1) e left inside r)
+    {body : Height} (done : r ≡ W.the-variants.Done body) {after : Level} (raised : after ≡ raisedTo l (body .peak .0)) where
+  body-is : PartMeans constants ops callees (suc i) e left (markedAs l false) (W.the-variants.Done body)
+  body-is = walked-as constants ops callees i e left l same done walked
 
-    pub loop-refused : {n p : ℕ} → r ≡ W.the-variants.Refused n p → LoopMeans constants ops callees i e to left l (Refused n p)
-    loop-refused {n} {p} z =
-        let w : no n p ≡ partHeight (chunkOf 0 constants ops) callees (suc i) e left (l .offset) false = rw (z, add-one) at (walked .0) in
-        (rw (← w), tt)
+  onward : (met : Bool) → Onward ops i (suc i) to l (passedOnce e (raisedTo l (body .peak .0)) met)
+  onward met = once-onward ops i e to l (h .at .target) (h .at .within) (h .at .rest) (body .peak .0) met (λ b s. body-is .1 b (s .offset) .peak)
 
-    module _ {body : Height} (done : r ≡ W.the-variants.Done body) {after : Level} (raised : after ≡ raisedTo l (body .peak .0)) where
-      body-is : ok (heightOf body) ≡ partHeight (chunkOf 0 constants ops) callees (suc i) e left (l .offset) false
-      body-is = rw (done, add-one) at (walked .0)
+  pub loop-once : body .delta ≡ Stops → (k : Step) → k ≡ passedOnce e after (body .broken) → LoopMeans constants ops callees i e to left l k
+  loop-once z k is =
+      rw (is, raised) (
+        rw (← body-is .0, z) (elim (body .broken) as (λ met. stepResult (chunkOf 0 constants ops) callees to left (passedOnce e (raisedTo l (body .peak .0)) met)
+            ≡ R.afterBody (R.riseOf (chunkOf 0 constants ops) callees) (R.moveOf (chunkOf 0 constants ops)) (countOf (chunkOf 0 constants ops))
+            R.ends met i (l .offset) (max (l .peak .0) (body .peak .0)) (l .broken)
+            (λ d p b. regionHeight (chunkOf 0 constants ops) callees (suc e) to left d p b)) [ true ↦ refl | false ↦ refl ]),
+        onward (body .broken),
+      )
 
-      body-peak : (b : ℕ) → Small l b → body .peak .0 ≤ b + 65536 * (e - suc i) + 134217728
-      body-peak b s = (rw (done, add-one) at (walked .1 b (s .offset))) .peak
+  module _ (o : B.Bound) (count : boundOf o ≡ countAt (constantsOf constants) ops i) {x : lib.IntN.ℤ} (goes : body .delta ≡ Offset x) where
+    pub loop-uncounted : o ≡ B.the-variants.Nothing → LoopMeans constants ops callees i e to left l (Refused 9 i)
+    loop-uncounted z = let n = rw z at count in (rw (← body-is .0, goes, ← n), tt)
 
-      pub loop-once : body .delta ≡ Stops → (k : Step) → k ≡ passedOnce e after (body .broken)
-          → LoopMeans constants ops callees i e to left l k
-      loop-once z k is =
-          rw (is, raised) (
-            rw (← body-is, z) (go (body .broken)),
-            once-onward ops i e to l (h .at .target) (h .at .within) (h .at .rest) (body .peak .0) (body .broken) body-peak,
-          )
-        where
-          go : (met : Bool) → stepResult (chunkOf 0 constants ops) callees to left (passedOnce e (raisedTo l (body .peak .0)) met)
-              ≡ R.afterBody (R.riseOf (chunkOf 0 constants ops) callees) (R.moveOf (chunkOf 0 constants ops)) (countOf (chunkOf 0 constants ops))
-              R.ends met i (l .offset) (max (l .peak .0) (body .peak .0)) (l .broken)
-              (λ d p b. regionHeight (chunkOf 0 constants ops) callees (suc e) to left d p b)
-          go true = refl
-          go false = refl
-
-      module _ (o : B.Bound) (count : boundOf o ≡ countAt (constantsOf constants) ops i) {x : lib.IntN.ℤ} (goes : body .delta ≡ Offset x) where
-        pub loop-uncounted : o ≡ B.the-variants.Nothing → LoopMeans constants ops callees i e to left l (Refused 9 i)
-        loop-uncounted z = let n = rw z at count in (rw (← body-is, goes, ← n), tt)
-
-        pub loop-goes : {n : ℕ} → o ≡ B.the-variants.Count n → LoopMeans constants ops callees i e to left l (Goes (e + 1) after)
-        loop-goes z =
-            let n = rw z at count in
-            rw (add-one, raised) (
-              rw (← body-is, goes, ← n),
-              raised-onward ops i e to l (h .at .target) (h .at .within) (h .at .rest) (body .peak .0) body-peak,
-            )
+    pub loop-goes : {n : ℕ} → o ≡ B.the-variants.Count n → LoopMeans constants ops callees i e to left l (Goes (e + 1) after)
+    loop-goes z = let n = rw z at count in rw (add-one, raised) (rw (← body-is .0, goes, ← n), onward true)

@@ -1,6 +1,5 @@
 -- How the bounds of levels and heights grow along a row and where arms meet.
 -- Assumes nothing.
-use mathlib.Core.Path.{_≡_, refl}
 use mathlib.Core.Bool.{Bool, true, false}
 use mathlib.Core.List.{List}
 use Prim.Native.Nat.{ℕ, suc, _+_, _-_, _*_, _<_, _≤_, max}
@@ -43,30 +42,15 @@ module _ (ops : List ℕ) (i f to : ℕ) (l : Level) (lt : i < f) (within : f < 
   pub joined-onward : (arm other : R.Height)
       → ((b : ℕ) → Small l b → SmallHeight arm (b + 65536 * (f - suc i)) × SmallHeight other (b + 65536 * (f - suc i)))
       → Onward ops i (suc i) to l (joined f l arm other)
-  joined-onward arm other parts = go (R.greaterDelta (arm .delta) (other .delta)) refl
-    where
-      go : (x : R.Delta) → R.greaterDelta (arm .delta) (other .delta) ≡ x
-          → Onward ops i (suc i) to l (goesOn f (max (max (l .peak .0) (arm .peak)) (other .peak)) x (other .broken))
-      go (R.offset x) e = (
-        omega arith,
-        within,
-        rest,
-        λ b s.
-            let p = parts b s in
-            let g : SmallDelta (R.offset x) (b + 65536 * (f - suc i)) = rw e at (greater-small (arm .delta) (other .delta) _ (p .0 .delta) (p .1 .delta)) in
-            record { offset = omega arith; peak = omega arith },
-      )
-      go R.ends e = λ b s. let p = parts b s in record { peak = omega arith; delta = tt }
+  joined-onward arm other parts =
+      (elim (R.greaterDelta (arm .delta) (other .delta)) as (λ x. ((b : ℕ) → Small l b → SmallDelta x (b + 65536 * (f - suc i)))
+      → Onward ops i (suc i) to l (goesOn f (max (max (l .peak .0) (arm .peak)) (other .peak)) x (other .broken))) [
+        | R.offset x ↦ λ g. (omega arith, within, rest, λ b s. let p = parts b s in let h = g b s in record { offset = omega arith; peak = omega arith })
+        | R.ends ↦ λ g b s. let p = parts b s in record { peak = omega arith; delta = tt }
+      ]) (λ b s. let p = parts b s in greater-small (arm .delta) (other .delta) _ (p .0 .delta) (p .1 .delta))
 
   -- behind a loop that closes at f
-  raised-small : (peak b : ℕ) → peak ≤ b + 65536 * (f - suc i) + 134217728 → Small l b → Small (raisedTo l peak) (b + 65536 * (suc f - suc i))
-  raised-small peak b h s = record { offset = omega arith; peak = omega arith }
-
-  pub raised-onward : (peak : ℕ) → ((b : ℕ) → Small l b → peak ≤ b + 65536 * (f - suc i) + 134217728)
-      → Onward ops i (suc i) to l (Goes (suc f) (raisedTo l peak))
-  raised-onward peak most = (omega arith, within, rest, λ b s. raised-small peak b (most b s) s)
-
   pub once-onward : (peak : ℕ) (met : Bool) → ((b : ℕ) → Small l b → peak ≤ b + 65536 * (f - suc i) + 134217728)
       → Onward ops i (suc i) to l (passedOnce f (raisedTo l peak) met)
-  once-onward peak true most = raised-onward peak most
+  once-onward peak true most = (omega arith, within, rest, λ b s. let h = most b s in record { offset = omega arith; peak = omega arith })
   once-onward peak false most = λ b s. let h = most b s in record { peak = omega arith; delta = tt }

@@ -1,7 +1,7 @@
 -- The distance from 0 of a signed 64-bit number below 0, taken without leaving 64 bits: that of the number plus 1, negated, plus 1.
 -- Assumes nothing.
 use mathlib.Core.Path.{_≡_, refl, ap}
-use mathlib.Core.Bool.{Bool, true, false}
+use mathlib.Core.Bool.{true, false, true≢false}
 use Prim.Native.Nat.{ℕ, zero, suc, _+_, _<_, _^_}
 use native.Mathlib.Omega.{arith}
 use borrow.Author.Tests.{ltb-true, ltb-false, lt-ltb}
@@ -15,11 +15,9 @@ use Rattle.stack.proofs.SignedLaws.{back}
 
 -- bits are read as a number in the range
 read-near : (n : ℕ) → mag (toZ w64 n) < 2 ^ 63
-read-near n = go (ltb n (2 ^ 63)) refl
-  where
-    go : (b : Bool) → ltb n (2 ^ 63) ≡ b → mag (toZ w64 n) < 2 ^ 63
-    go true e = simp e (ltb-true n (2 ^ 63) e)
-    go false e = simp e (omega (arith, ltb-false n (2 ^ 63) e))
+read-near n =
+    (elim (ltb n (2 ^ 63)) as (λ b. ltb n (2 ^ 63) ≡ b → mag (toZ w64 n) < 2 ^ 63)
+    [ true ↦ λ e. simp e (ltb-true n (2 ^ 63) e) | false ↦ λ e. simp e (omega (arith, ltb-false n (2 ^ 63) e)) ]) refl
 
 one-up : (j : ℕ) → negsuc (suc j) +ℤ pos 1 ≡ negsuc j
 one-up j = rw (lt-ltb 1 (suc (suc j)) (omega arith)) (ap negsuc (omega arith))
@@ -54,8 +52,6 @@ pub below : (z : ℤ) → ltZ (back z) (pos 0) ≡ true → Below (back z)
 below z e = steps (back z) (read-near (ofZ w64 z)) e
 
 pub not-below : (z : ℤ) → ltZ (back z) (pos 0) ≡ false → T (nonNeg (back z)) × Fits w64 (natAbs (back z))
-not-below z e = go (back z) (read-near (ofZ w64 z)) e
-  where
-    go : (y : ℤ) → mag y < 2 ^ 63 → ltZ y (pos 0) ≡ false → T (nonNeg y) × Fits w64 (natAbs y)
-    go (pos n) h f = (tt, record { fits = omega arith })
-    go (negsuc n) h f = absurd (let z : _≡_ {A = ℕ} 0 1 = cc in omega arith)
+not-below z e =
+    (elim (back z) as (λ y. mag y < 2 ^ 63 → ltZ y (pos 0) ≡ false → T (nonNeg y) × Fits w64 (natAbs y))
+    [ pos n ↦ λ h f. (tt, record { fits = omega arith }) | negsuc n ↦ λ h f. absurd (true≢false f) ]) (read-near (ofZ w64 z)) e

@@ -1,7 +1,7 @@
 -- How a part's height is taken into the row around it: its lift by an offset and the greater of two deltas, as the code computes them, and bounds.
 -- Assumes nothing.
 use mathlib.Core.Path.{_≡_, refl}
-use mathlib.Core.Bool.{true, false}
+use mathlib.Core.Bool.{Bool, true, false, cond}
 use Prim.Native.Nat.{ℕ, _+_, _<_, _≤_, _^_}
 use native.Mathlib.Omega.{arith}
 use lib.Dec.{T}
@@ -47,22 +47,14 @@ module _ (l : Level) (d : Delta) (x : ℤ) (s : Small l 1073741824) (few : Small
 -- the greater of two deltas
 module _ (a b : Delta) where
   pub greater-first : a ≡ ends → b ≡ greaterDelta a b
-  greater-first e = rw e (go b)
-    where
-      go : (d : Delta) → d ≡ greaterDelta ends d
-      go (offset y) = refl
-      go ends = refl
+  greater-first e = rw e (elim b as (λ d. d ≡ greaterDelta ends d) [ offset y ↦ refl | ends ↦ refl ])
 
   module _ (x : ℤ) (is : a ≡ offset x) where
     pub greater-second : b ≡ ends → offset x ≡ greaterDelta a b
     greater-second e = rw (is, e)
 
-    module _ (y : ℤ) (are : b ≡ offset y) (f : SFits w64 x) (g : SFits w64 y) where
-      pub greater-up : ltZ (back x) (back y) ≡ true → offset y ≡ greaterDelta a b
-      greater-up h = let t = rw (toZ-ofZ w64 x f, toZ-ofZ w64 y g) at h in rw (is, are, t)
-
-      pub greater-same : ltZ (back x) (back y) ≡ false → offset x ≡ greaterDelta a b
-      greater-same h = let t = rw (toZ-ofZ w64 x f, toZ-ofZ w64 y g) at h in rw (is, are, t)
+    pub greater-both : (y : ℤ) → b ≡ offset y → SFits w64 x → SFits w64 y → {t : Bool} → ltZ (back x) (back y) ≡ t → offset (cond t y x) ≡ greaterDelta a b
+    greater-both y are f g h = let t = rw (toZ-ofZ w64 x f, toZ-ofZ w64 y g) at h in rw (is, are, t)
 
 -- bounds
 moved-small : (z : ℤ) (d : Delta) (b k : ℕ) → natAbs z ≤ b → SmallDelta d k → SmallDelta (partDelta z d) (b + k)

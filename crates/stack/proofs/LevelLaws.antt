@@ -3,7 +3,7 @@
 use mathlib.Core.Path.{_≡_, refl}
 use mathlib.Core.Bool.{Bool, true, false, cond, _&&_, and-eq-true-iff}
 use mathlib.Core.List.{List, [], _∷_}
-use Prim.Native.Nat.{ℕ, _+_, _%_, _<_, _≤_, _^_, max}
+use Prim.Native.Nat.{ℕ, _+_, _%_, _<_, _≤_, max}
 use native.Mathlib.Omega.{arith}
 use borrow.Author.Tests.{leb-true, ne-eqb}
 use lib.Dec.{T, eqb, leb}
@@ -18,7 +18,7 @@ use Rattle.stack.specs.declared.level.Effect.{Effect}
 use Rattle.stack.specs.declared.level.Level.{Level}
 use Rattle.words.proofs.OpLaws.{read-op}
 use Rattle.stack.specs.Levels.{effectAt, levelOver, SmallEffect, Small}
-use Rattle.stack.proofs.SignedLaws.{back, near-back, sum-near, sum-fits, sum-back, difference-near, difference-fits, difference-back}
+use Rattle.stack.proofs.SignedLaws.{back, near-back, sum-near, sum-back, difference-near, difference-fits, difference-back}
 use Rattle.stack.proofs.SignedLaws.{raised, not-raised, at-least-zero-near, greater-near}
 
 -- A Call's rise, of a callee of so many slots.
@@ -26,19 +26,13 @@ module _ (callees : List ℕ) (w slots : ℕ) (few : slots ≤ 134217727) (are :
   abbrev riseRead : ℤ
   riseRead = toZ w64 slots -ℤ toZ w64 (fieldB w)
 
-  pub rise-fits : SFits w64 riseRead
-  rise-fits = difference-fits slots (fieldB w) (omega arith)
-
   pub rise-small : natAbs (callRise callees w) ≤ 134217727
   rise-small =
       rw (← are)
       (greater-near (pos slots -ℤ pos (fieldB w)) (pos 1) 134217727 (omega (arith, difference-near slots (fieldB w))) (omega arith))
 
-  pub rise-one : ltZ (back riseRead) (pos 1) ≡ true → pos 1 ≡ callRise callees w
-  rise-one h = let t = rw (difference-back slots (fieldB w) (omega arith)) at h in rw (← are, t)
-
-  pub rise-own : ltZ (back riseRead) (pos 1) ≡ false → back riseRead ≡ callRise callees w
-  rise-own h = let t = rw (difference-back slots (fieldB w) (omega arith)) at h in rw (difference-back slots (fieldB w) (omega arith), ← are, t)
+  pub rise-is : {t : Bool} → ltZ (back riseRead) (pos 1) ≡ t → cond t (pos 1) (back riseRead) ≡ callRise callees w
+  rise-is h = let e = difference-back slots (fieldB w) (omega arith) in let t = rw e at h in rw (e, ← are, t)
 
 -- the figures of an op are small
 record SmallFigures (f : Figures) : Type 0 where
@@ -69,11 +63,9 @@ figures-small w =
     (either (eqb (kind w) 36) _ _ (either (eqb (fieldB w) 1) _ _ (omega arith) (omega arith))
     (either (eqb (kind w) 50) _ _ (either (eqb (fieldA w) 8) _ _ (omega arith) (either (eqb (fieldA w) 9) _ _ (omega arith) (omega arith)))
     (either (eqb (kind w) 58) _ _ (omega arith)
-    (either (between 64 65 (kind w)) _ _ (native (leb 128 (fieldB w))) (groups-small table refl (kind w)))))))
-  where
-    native : (t : Bool) → SmallFigures (record { cycles = 10; growth = cond t 2 1; shrink = fieldB w % 128 })
-    native true = omega arith
-    native false = omega arith
+    (either (between 64 65 (kind w)) _ _
+    (elim (leb 128 (fieldB w)) as (λ t. SmallFigures (record { cycles = 10; growth = cond t 2 1; shrink = fieldB w % 128 }))
+    [ true ↦ omega arith | false ↦ omega arith ]) (groups-small table refl (kind w)))))))
 
 -- The effect of an op, from its growth g and shrink s.
 module _ (ops callees : List ℕ) (i g s : ℕ) (within : i < length ops) where
@@ -90,62 +82,45 @@ module _ (ops callees : List ℕ) (i g s : ℕ) (within : i < length ops) where
     pub shift-fits : SFits w64 shiftRead
     shift-fits = difference-fits g s (omega (arith, few))
 
-    shift-is : back shiftRead ≡ pos g -ℤ pos s
-    shift-is = difference-back g s (omega (arith, few))
+    abbrev Effected : ℤ → Type 0
+    Effected r = (_≡_ {A = Effect} (record { rise = r; shift = back shiftRead }) (effectAt ops callees i)) × SmallEffect (record { rise = r; shift = back shiftRead })
 
-    shift-small : natAbs (pos g -ℤ pos s) ≤ 65536
-    shift-small = omega (arith, few, difference-near g s)
-
-    effect-is : _≡_ {A = Effect} (record { rise = cond (eqb (kind here) 30) (callRise callees here) (pos g); shift = pos g -ℤ pos s }) (effectAt ops callees i)
-    effect-is = rw (grows, shrinks, read-op ops i within)
-
-    pub effect-call : (r : ℤ) → kind here ≡ 30 → r ≡ callRise callees here → natAbs r ≤ 134217727
-        → (_≡_ {A = Effect} (record { rise = back r; shift = back shiftRead }) (effectAt ops callees i))
-        × SmallEffect (record { rise = back r; shift = back shiftRead })
-    effect-call r k e n =
+    effect-is : (r : ℤ) → r ≡ cond (eqb (kind here) 30) (callRise callees here) (pos g) → natAbs r ≤ 134217727 → Effected (back r)
+    effect-is r e n =
         let b = near-back r (omega arith) in
-        (rw (← effect-is, shift-is, b, k, e), rw (shift-is, b) (record { rise = n; shift = shift-small }))
+        let d = difference-back g s (omega (arith, few)) in
+        (rw (b, d, e, grows, shrinks, read-op ops i within), rw (b, d) (record { rise = n; shift = omega (arith, few, difference-near g s) }))
 
-    pub effect-plain : (kind here ≡ 30 → ⊥)
-        → (_≡_ {A = Effect} (record { rise = toZ w64 g; shift = back shiftRead }) (effectAt ops callees i))
-        × SmallEffect (record { rise = toZ w64 g; shift = back shiftRead })
-    effect-plain k =
-        let b = near-back (pos g) (omega (arith, few)) in
-        (rw (← effect-is, shift-is, b, ne-eqb (kind here) 30 k), rw (shift-is, b) (record { rise = omega (arith, few); shift = shift-small }))
+    pub effect-call : (r : ℤ) → kind here ≡ 30 → r ≡ callRise callees here → natAbs r ≤ 134217727 → Effected (back r)
+    effect-call r k e n = effect-is r (rw k e) n
+
+    pub effect-plain : (kind here ≡ 30 → ⊥) → Effected (toZ w64 g)
+    effect-plain k = effect-is (pos g) (simp (ne-eqb (kind here) 30 k)) (omega (arith, few))
 
 -- the level behind an op
 module _ (l : Level) (e : Effect) (s : Small l 1073741824) (t : SmallEffect e) where
-  rises : natAbs (l .offset) + natAbs (e .rise) < 2 ^ 63
-  rises = omega arith
-
-  shifts : natAbs (l .offset) + natAbs (e .shift) < 2 ^ 63
-  shifts = omega arith
-
   abbrev duringAt : ℤ
   duringAt = back (l .offset) +ℤ back (e .rise)
 
-  pub during-fits : SFits w64 duringAt
-  during-fits = sum-fits (l .offset) (e .rise) rises
-
-  pub offset-fits : SFits w64 (back (l .offset) +ℤ back (e .shift))
-  offset-fits = sum-fits (l .offset) (e .shift) shifts
+  during-is : back duringAt ≡ l .offset +ℤ e .rise
+  during-is = sum-back (l .offset) (e .rise) (omega arith)
 
   read : (b : Bool) → ltZ (toZ w64 (l .peak .0)) (back duringAt) ≡ b → ltZ (pos (l .peak .0)) (l .offset +ℤ e .rise) ≡ b
-  read b h = rw (near-back (pos (l .peak .0)) (omega arith), sum-back (l .offset) (e .rise) rises) at h
+  read b h = rw (near-back (pos (l .peak .0)) (omega arith), during-is) at h
 
   module _ (up : ltZ (toZ w64 (l .peak .0)) (back duringAt) ≡ true) where
     pub peak-fits : T (nonNeg (back duringAt)) × Fits w32 (natAbs (back duringAt))
     peak-fits =
-        rw (sum-back (l .offset) (e .rise) rises)
+        rw during-is
         (raised (l .peak .0) (l .offset +ℤ e .rise) (read true up) .0, record { fits = omega (arith, sum-near (l .offset) (e .rise)) })
 
     pub over-up : _≡_ {A = Level}
         (record { offset = back (back (l .offset) +ℤ back (e .shift)); peak = record { 0 = natAbs (back duringAt) }; broken = l .broken }) (levelOver l e)
-    over-up = rw (sum-back (l .offset) (e .rise) rises, sum-back (l .offset) (e .shift) shifts, raised (l .peak .0) (l .offset +ℤ e .rise) (read true up) .1)
+    over-up = rw (during-is, sum-back (l .offset) (e .shift) (omega arith), raised (l .peak .0) (l .offset +ℤ e .rise) (read true up) .1)
 
   pub over-same : ltZ (toZ w64 (l .peak .0)) (back duringAt) ≡ false
       → _≡_ {A = Level} (record { offset = back (back (l .offset) +ℤ back (e .shift)); peak = l .peak; broken = l .broken }) (levelOver l e)
-  over-same h = rw (sum-back (l .offset) (e .shift) shifts, ← not-raised (l .peak .0) (l .offset +ℤ e .rise) (read false h))
+  over-same h = rw (sum-back (l .offset) (e .shift) (omega arith), ← not-raised (l .peak .0) (l .offset +ℤ e .rise) (read false h))
 
 -- one op moves the bound by 65,536
 pub over-small : (l : Level) (e : Effect) (b : ℕ) → Small l b → SmallEffect e → Small (levelOver l e) (b + 65536)

@@ -7,13 +7,13 @@ use Prim.Native.Nat.{ℕ, _-_, _*_, _<_, _≤_}
 use native.Mathlib.Omega.{arith}
 use lib.IntN.{pos}
 use Rattle.rules.specs.Ops.{opAt}
+use Rattle.rules.specs.Stack.{rowHeight}
 use Rattle.rows.specs.Tree.{HasRow}
 use Rattle.rows.specs.Opens.{RowFits, StepFits}
-use Rattle.rows.proofs.TreeLaws.{row-end}
+use Rattle.rows.proofs.TreeLaws.{tree-empty, row-end}
 use Rattle.stack.specs.declared.level.Level.{Level}
 use Rattle.stack.specs.declared.height.Height.{Height}
 use Rattle.stack.specs.declared.region.Walk as W
-use Rattle.stack.specs.declared.region.Step.{Step}
 use Rattle.stack.specs.declared.region.Step.the-variants.{Goes, Ends, Refused}
 use Rattle.stack.specs.Levels.{chunkOf, heightOf, endsAt, lifted, Small, SmallHeight}
 use Rattle.stack.specs.Steps.{regionHeight, levelHeight, liftedBy, PartFits, RegionMeans, PartMeans, StepMeans}
@@ -42,35 +42,29 @@ module _ {constants ops callees : List ℕ} {from to left : ℕ} {broken : Bool}
   rest-fits f lt = record { here = lt; row = record { within = f .within; short = f .short; has-row = r .row } }
 
   pub rest-end : to ≤ i → (h : Height) → heightOf h ≡ endsAt l → RegionMeans constants ops callees from to left broken (W.the-variants.Done h)
+  unfolding rowHeight
   rest-end le h is =
       let e = row-end (opAt ops) true i to (r .row .0) (r .row .1) le in
-      (rw is (L.region-end constants ops callees i to left l e ∙ r .same), rw (is, ← e) (ends-small (r .small)))
+      (rw (is, ← r .same, e, tree-empty (opAt ops) to), rw (is, ← e) (ends-small (r .small)))
 
-  module _ (s : Step) (m : StepMeans constants ops callees i to left l s) where
-    pub rest-forward : {j : ℕ} {n : Level} → s ≡ Goes j n → i < j
-    rest-forward e = (rw e at (m .1)) .0
+  -- by the step taken at i
+  pub rest-goes : {j : ℕ} {n : Level} → StepMeans constants ops callees i to left l (Goes j n) → Rest constants ops callees from to left broken j n
+  rest-goes m =
+      let (lt, _, row, grows) = m .1 in
+      let b = r .from-start in
+      record { from-start = omega arith; row = row; small = small-more (grows _ (r .small)) (omega arith); same = m .0 ∙ r .same }
 
-    pub rest-goes : {j : ℕ} {n : Level} → s ≡ Goes j n → Rest constants ops callees from to left broken j n
-    rest-goes e =
-        let g = rw e at m in
-        let o = g .1 in
-        let a = o .0 in
-        let b = r .from-start in
-        record { from-start = omega arith; row = o .2; small = small-more (o .3 _ (r .small)) (omega arith); same = g .0 ∙ r .same }
+  pub rest-ends : (h : Height) → i < to → StepMeans constants ops callees i to left l (Ends h) → RegionMeans constants ops callees from to left broken (W.the-variants.Done h)
+  rest-ends h lt m = let b = r .from-start in (m .0 ∙ r .same, height-more (m .1 _ (r .small)) (omega arith))
 
-    pub rest-ends : {h : Height} → i < to → s ≡ Ends h → RegionMeans constants ops callees from to left broken (W.the-variants.Done h)
-    rest-ends lt e =
-        let g = rw e at m in
-        let b = r .from-start in
-        (g .0 ∙ r .same, height-more (g .1 _ (r .small)) (omega arith))
-
-    pub rest-refused : {n p : ℕ} → s ≡ Refused n p → RegionMeans constants ops callees from to left broken (W.the-variants.Refused n p)
-    rest-refused e = (rw e at (m .0) ∙ r .same, tt)
+  pub rest-refused : (n p : ℕ) → StepMeans constants ops callees i to left l (Refused n p)
+      → RegionMeans constants ops callees from to left broken (W.the-variants.Refused n p)
+  rest-refused n p m = (m .0 ∙ r .same, tt)
 
 -- A part of a row, begun at a level.
 module _ (constants callees : List ℕ) (left : ℕ) {ops : List ℕ} {from to : ℕ} {l : Level} (f : PartFits ops from to l) where
   pub part-deepest : left ≡ 0 → PartMeans constants ops callees from to left l (W.the-variants.Refused 7 0)
-  part-deepest e = (L.part-none (chunkOf 0 constants ops) callees from to (l .offset) (l .broken) left e, λ b h. tt)
+  part-deepest e = (rw e, λ b h. tt)
 
   module _ (deep : left ≡ 0 → ⊥) (w : W.Walk) (m : RegionMeans constants ops callees from to (left - 1) (l .broken) w) where
     pub part-refused : {n p : ℕ} → w ≡ W.the-variants.Refused n p → PartMeans constants ops callees from to left l (W.the-variants.Refused n p)

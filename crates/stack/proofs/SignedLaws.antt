@@ -1,7 +1,7 @@
 -- Signed 64-bit numbers that are far from the ends of their range: each is what its bits are read as, and sums and differences of them stay near 0.
 -- Assumes nothing.
 use mathlib.Core.Path.{_≡_, refl}
-use mathlib.Core.Bool.{Bool, true, false}
+use mathlib.Core.Bool.{true, false, cond}
 use Prim.Native.Nat.{ℕ, zero, suc, _+_, _<_, _≤_, _^_, max}
 use native.Mathlib.Omega.{arith}
 use borrow.Author.Tests.{ltb-true, ltb-false}
@@ -25,11 +25,9 @@ pub near-back : (z : ℤ) → natAbs z < 2 ^ 63 → back z ≡ z
 near-back z h = toZ-ofZ w64 z (near-fits z h)
 
 cut-near : (m n : ℕ) → natAbs (subℕ m n) ≤ max m n
-cut-near m n = go (ltb m n) refl
-  where
-    go : (b : Bool) → ltb m n ≡ b → natAbs (subℕ m n) ≤ max m n
-    go true e = simp e (omega (arith, ltb-true m n e))
-    go false e = simp e (omega (arith, ltb-false m n e))
+cut-near m n =
+    (elim (ltb m n) as (λ b. ltb m n ≡ b → natAbs (subℕ m n) ≤ max m n)
+    [ true ↦ λ e. simp e (omega (arith, ltb-true m n e)) | false ↦ λ e. simp e (omega (arith, ltb-false m n e)) ]) refl
 
 -- a sum is no further from 0 than both together
 pub sum-near : (a b : ℤ) → natAbs (a +ℤ b) ≤ natAbs a + natAbs b
@@ -85,8 +83,4 @@ at-least-zero-near (pos n) = omega arith
 at-least-zero-near (negsuc n) = omega arith
 
 pub greater-near : (a b : ℤ) (k : ℕ) → natAbs a ≤ k → natAbs b ≤ k → natAbs (maxZ a b) ≤ k
-greater-near a b k h g = go (ltZ a b) refl
-  where
-    go : (t : Bool) → ltZ a b ≡ t → natAbs (maxZ a b) ≤ k
-    go true e = simp e g
-    go false e = simp e h
+greater-near a b k h g = elim (ltZ a b) as (λ t. natAbs (cond t b a) ≤ k) [ true ↦ g | false ↦ h ]

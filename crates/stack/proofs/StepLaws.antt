@@ -7,11 +7,10 @@ use Prim.Native.Nat.{ℕ, suc, _+_, _*_}
 use native.Mathlib.Numerals.{add-one}
 use native.Mathlib.Omega.{arith}
 use Rattle.rules.specs.Ops.{opAt}
+use Rattle.rules.specs.Stack.{rowHeight}
 use Rattle.rows.specs.Tree.{HasRow}
 use Rattle.rows.specs.Opens.{Opens, StepFits, IfFits, ElseFits, LoopFits}
-use Rattle.rows.specs.declared.block.Block.{Block}
-use Rattle.rows.specs.declared.block.Block.the-variants as B
-use Rattle.rows.specs.declared.block.Block.the-variants.{Plain, Break, BreakIf, If, IfElse, Loop}
+use Rattle.rows.specs.declared.block.Block.the-variants.{Plain, Ends, Break, BreakIf, If, IfElse, Loop}
 use Rattle.stack.specs.declared.level.Effect.{Effect}
 use Rattle.stack.specs.declared.level.Level.{Level}
 use Rattle.stack.specs.declared.region.Step.{Step}
@@ -43,53 +42,43 @@ module _ {ops callees : List ℕ} {i to : ℕ} {l m : Level} (a : Over ops calle
   onward : (r : Step) → Onward ops i (suc i) to m r → Onward ops i i to l r
   onward r o = onward-over ops i to l m r (a .fits .here) (a .grows) o
 
-  next : (n : Level) → ((b : ℕ) → Small m b → Small n b) → HasRow (opAt ops) true (suc i) to → Onward ops i (suc i) to m (Goes (suc i) n)
-  next n same r = (omega arith, a .fits .here, r, λ b z. small-more (same b z) (omega arith))
+  next : (broken : Bool) → HasRow (opAt ops) true (suc i) to → Onward ops i (suc i) to m (Goes (suc i) (markedAs m broken))
+  next broken r = (omega arith, a .fits .here, r, λ b z. record { offset = omega arith; peak = omega arith })
 
   ending : (broken : Bool) → Onward ops i (suc i) to m (endedAt (m .peak .0) broken)
   ending broken = λ b z. record { peak = omega arith; delta = tt }
 
-  module _ (constants : List ℕ) (left : ℕ) {k : Block} (opens : Opens ops i to k) where
-    pub step-if : {t : ℕ} (r : Step) → k ≡ If t → ((to : ℕ) → IfFits ops i t to → IfMeans constants ops callees i t to left m r)
+  module _ (constants : List ℕ) (left : ℕ) where
+    pub step-if : {t : ℕ} → Opens ops i to (If t) → (r : Step) → ((to : ℕ) → IfFits ops i t to → IfMeans constants ops callees i t to left m r)
         → StepMeans constants ops callees i to left l r
-    step-if r e g =
-        let o = rw e at opens in
+    step-if o r g =
         let n = g to (record { row = a .fits .row; at = o }) in
         (n .0 ∙ rw (a .is) (L.behind-if constants ops callees i to left l _ o), onward r (n .1))
 
-    pub step-else : {x f : ℕ} (r : Step) → k ≡ IfElse x f → ((to : ℕ) → ElseFits ops i x f to → ElseMeans constants ops callees i x f to left m r)
-        → StepMeans constants ops callees i to left l r
-    step-else r e g =
-        let o = rw e at opens in
+    pub step-else : {e f : ℕ} → Opens ops i to (IfElse e f) → (r : Step)
+        → ((to : ℕ) → ElseFits ops i e f to → ElseMeans constants ops callees i e f to left m r) → StepMeans constants ops callees i to left l r
+    step-else o r g =
         let n = g to (record { row = a .fits .row; at = o }) in
         (n .0 ∙ rw (a .is) (L.behind-else constants ops callees i to left l _ _ o), onward r (n .1))
 
-    pub step-loop : {x : ℕ} (r : Step) → k ≡ Loop x → ((to : ℕ) → LoopFits ops i x to → LoopMeans constants ops callees i x to left m r)
+    pub step-loop : {e : ℕ} → Opens ops i to (Loop e) → (r : Step) → ((to : ℕ) → LoopFits ops i e to → LoopMeans constants ops callees i e to left m r)
         → StepMeans constants ops callees i to left l r
-    step-loop r e g =
-        let o = rw e at opens in
+    step-loop o r g =
         let n = g to (record { row = a .fits .row; at = o }) in
         (n .0 ∙ rw (a .is) (L.behind-loop constants ops callees i to left l _ o), onward r (n .1))
 
-    pub step-ends : (r : Step) → k ≡ B.Ends → r ≡ endedAt (m .peak .0) (m .broken) → StepMeans constants ops callees i to left l r
-    step-ends r e is =
-        let o = rw e at opens in
-        rw is (rw (a .is) (L.behind-stop constants ops callees i to left l o), onward (endedAt (m .peak .0) (m .broken)) (ending (m .broken)))
+    pub step-ends : Opens ops i to Ends → (r : Step) → r ≡ endedAt (m .peak .0) (m .broken) → StepMeans constants ops callees i to left l r
+    unfolding rowHeight
+    step-ends o r is = rw is (rw (a .is, o .tree), onward (endedAt (m .peak .0) (m .broken)) (ending (m .broken)))
 
-    pub step-break : (r : Step) → k ≡ Break → r ≡ endedAt (m .peak .0) true → StepMeans constants ops callees i to left l r
-    step-break r e is =
-        let o = rw e at opens in
-        rw is (rw (a .is) (L.behind-break constants ops callees i to left l o), onward (endedAt (m .peak .0) true) (ending true))
+    pub step-break : Opens ops i to Break → (r : Step) → r ≡ endedAt (m .peak .0) true → StepMeans constants ops callees i to left l r
+    unfolding rowHeight
+    step-break o r is = rw is (rw (a .is, o .behind .tree), onward (endedAt (m .peak .0) true) (ending true))
 
-    pub step-break-if : (n : Level) → k ≡ BreakIf → n ≡ markedAs m true → StepMeans constants ops callees i to left l (Goes (i + 1) n)
-    step-break-if n e is =
-        let o = rw e at opens in
-        rw (add-one i, is) (
-          rw (a .is) (L.behind-break-if constants ops callees i to left l o),
-          onward (Goes (suc i) (markedAs m true)) (next (markedAs m true) (λ b z. record { offset = z .offset; peak = z .peak }) (o .behind .rest)),
-        )
+    pub step-break-if : Opens ops i to BreakIf → (n : Level) → n ≡ markedAs m true → StepMeans constants ops callees i to left l (Goes (i + 1) n)
+    unfolding rowHeight
+    step-break-if o n is = rw (add-one i, is) (rw (a .is, o .behind .tree), onward (Goes (suc i) (markedAs m true)) (next true (o .behind .rest)))
 
-    pub step-plain : k ≡ Plain → StepMeans constants ops callees i to left l (Goes (i + 1) m)
-    step-plain e =
-        let o = rw e at opens in
-        rw (add-one i) (rw (a .is) (L.behind-plain constants ops callees i to left l o), onward (Goes (suc i) m) (next m (λ b z. z) (o .rest)))
+    pub step-plain : Opens ops i to Plain → StepMeans constants ops callees i to left l (Goes (i + 1) m)
+    unfolding rowHeight
+    step-plain o = rw (add-one i) (rw (a .is, o .tree), onward (Goes (suc i) m) (next (m .broken) (o .rest)))

@@ -4,7 +4,7 @@ use mathlib.Core.Logic.{inl, inr, ⊎-elim}
 use native.Mathlib.Omega.{arith}
 use borrow.Author.Needs.{needs}
 use borrow.Author.Tests.{eqb-true, eqb-false}
-use Rattle.rows.proofs.BlockLaws.{if-reach, loop-reach, at-else, at-if, at-loop, at-break, at-break-if, at-end, at-plain}
+use Rattle.rows.proofs.Openings.{if-reach, loop-reach, at-else, at-if, at-loop, at-break, at-break-if, at-end, at-plain}
 use Rattle.rows.proofs.block.block_at.Statement.{statement}
 use Rattle.rows.proofs.block.block_at.Tie as tie
 

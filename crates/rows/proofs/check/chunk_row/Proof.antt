@@ -2,23 +2,21 @@
 use mathlib.Core.Bool.{true, false}
 use borrow.Author.Tests.{not-true, not-false}
 use borrow.Author.Needs.{needs}
-use Rattle.rows.proofs.RangeLaws.{no-range, range-inside, target-backward, range-decided}
+use Rattle.rows.proofs.RangeLaws.{range-inside, range-decided}
 use Rattle.rows.proofs.check.chunk_row.Statement.{statement}
 use Rattle.rows.proofs.check.chunk_row.Tie as tie
 
 returns : tie.Need-returns
 returns c =
-    let r = c .before .before .before in
-    let a = r .before .before .args in
-    no-range (a .mode) (a .ops .now) _ (rw (c .before .found .given .1) at (r .range-of .ensures))
+    let e = rw (c .before .found .given .1) at (c .before .before .before .range-of .ensures) in
+    rw (← e)
 
 returns-2 : tie.Need-returns-2
 returns-2 c =
     let f = c .before .before .before in
-    let r = f .before .before .before .before in
-    let a = r .before .before .args in
-    target-backward (a .mode) (a .ops .now) _ (rw (f .before .before .found2 .given .1) at (r .range-of .ensures)) _
-    (rw (c .before .backward .given .1) at (f .check-forward-control-flow-targets .ensures))
+    let r = rw (f .before .before .found2 .given .1) at (f .before .before .before .before .range-of .ensures) in
+    let e = rw (c .before .backward .given .1) at (f .check-forward-control-flow-targets .ensures) in
+    rw (← r, ← e)
 
 enum-told : tie.Need-enum-told
 enum-told c = search needs

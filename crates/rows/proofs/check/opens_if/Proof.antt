@@ -1,10 +1,10 @@
 -- `opens_if` is `opensIf`. Assumes nothing.
-use mathlib.Core.Bool.{true, false}
+use mathlib.Core.Bool.{true, false, and-false}
 use mathlib.Core.Logic.{⊎-elim}
 use native.Mathlib.Omega.{arith}
-use borrow.Author.Tests.{ltb-true, ltb-false}
+use borrow.Author.Tests.{ltb-true, ltb-false, le-ltb, lt-leb}
 use borrow.Author.Needs.{needs}
-use Rattle.rows.proofs.DecisionLaws.{InStretch, if-behind, if-past, else-behind, else-past, else-at, end-past, end-at}
+use Rattle.rows.proofs.DecisionLaws.{InStretch, at-else, else-at, no-else, end-at}
 use Rattle.rows.proofs.check.opens_if.Statement.{statement}
 use Rattle.rows.proofs.check.opens_if.Tie as tie
 
@@ -12,8 +12,8 @@ returns : tie.Need-returns
 returns c =
     let a = c .before .args in
     ⊎-elim
-    (λ w. if-behind (a .ops .now) (a .i) (a .t) (a .to) (w .taken))
-    (λ w. if-past (a .ops .now) (a .i) (a .t) (a .to) (ltb-true (a .to) (a .t) (w .1 .taken)))
+    (λ w. simp (le-ltb (a .i) (a .t) (w .taken)))
+    (λ w. simp (lt-leb (a .t) (a .to) (ltb-true (a .to) (a .t) (w .1 .taken)), and-false))
     (c .if1 .came)
 
 -- behind the first tests
@@ -50,7 +50,7 @@ returns-3 c =
     let e = f .if3 .taken in
     ⊎-elim
     (λ w. else-at s e (w .0 .taken) (w .1 .taken) false (w .3 .left))
-    (⊎-elim (λ w. else-past s e (w .1 .left)) (λ w. else-behind s e (w .left)))
+    (⊎-elim (λ w. rw (← at-else s e) (simp (w .1 .left, and-false))) (λ w. rw (← at-else s e) (simp (le-ltb _ _ (w .left)))))
     (c .if4 .came)
 
 returns-4 : tie.Need-returns-4
@@ -62,7 +62,7 @@ returns-5 : tie.Need-returns-5
 returns-5 c =
     let e = c .before in
     let s = in-stretch (e .before .before) in
-    ⊎-elim (λ w. end-at s (e .if3 .left) (w .0 .taken) false (w .2 .left)) (λ w. end-past s (e .if3 .left) (w .left)) (c .if7 .came)
+    ⊎-elim (λ w. end-at s (e .if3 .left) (w .0 .taken) false (w .2 .left)) (λ w. rw (← no-else s (e .if3 .left)) (simp (le-ltb _ _ (w .left)))) (c .if7 .came)
 
 pub opens-if-spec : {M : Type 1} → statement M
 opens-if-spec =

@@ -6,12 +6,13 @@ use mathlib.Core.Logic.{⊎-elim}
 use Prim.Native.Nat.{_+_, _-_, _<_, _≤_}
 use native.Mathlib.Omega.{arith}
 use borrow.Author.Needs.{needs}
+use borrow.Author.Tests.{eq-eqb, ne-eqb}
 use lib.ListN.{length, getD}
 use Rattle.rules.specs.Ops.{opAt}
 use Rattle.words.proofs.OpLaws.{read-op}
-use Rattle.rows.proofs.OpenBlocks.{stack, boundOf, start, row-there, no-row}
-use Rattle.rows.proofs.BlockArray.{State, bound-none, bound-some, carried, sizes, all-closed, plain-next, crossed-next, open-room, open-next}
-use Rattle.rows.proofs.BlockArray.{AtEnd, some-block, some-loop, else-next, close-next, close-loop-next}
+use Rattle.rows.proofs.OpenBlocks.{stack, boundOf, start, finished, crossed-turn, row-there, no-row}
+use Rattle.rows.proofs.BlockArray.{State, bound-none, bound-some, carried, sizes, plain-next, open-room, open-next}
+use Rattle.rows.proofs.BlockArray.{AtEnd, some-block, some-loop, else-next, close-next}
 use Rattle.rows.proofs.check.row_within.Statement.{statement}
 use Rattle.rows.proofs.check.row_within.Tie as tie
 
@@ -101,7 +102,7 @@ returns c =
     let j = o .before .before in
     let s = j .before .before .before .before .before in
     no-row (opAt (s .args .ops .now)) (s .args .from) (s .args .to) (s .pre .0)
-    (crossed-next (j .before .before .loop .inv) (bound-is j) (o .before .if2 .taken) (sym (c .enum-told2 .given .1) ∙ o .opens-at .ensures))
+    (crossed-turn _ _ _ (j .before .before .loop .inv .stage) (bound-is j) (o .before .if2 .taken) (sym (c .enum-told2 .given .1) ∙ o .opens-at .ensures))
 
 -- where a part ends
 at-end : (c : tie.Joined1 Inv-loop μ-loop) → let l = c .before .before in let a = l .before .before .before .args in
@@ -120,7 +121,7 @@ at-end c h =
 sub-ends : tie.Need-sub-ends Inv-loop μ-loop
 sub-ends c =
     let e = c .before .before .before in
-    some-block _ (at-end (e .before) (e .if2 .left))
+    some-block (at-end (e .before) (e .if2 .left))
 
 mul-ends-4 : tie.Need-mul-ends-4 Inv-loop μ-loop
 mul-ends-4 c = omega (arith, sizes (c .before .before .before .before .before .before .loop .inv))
@@ -129,14 +130,12 @@ slice-write-ends-3 : tie.Need-slice-write-ends-3 Inv-loop μ-loop
 slice-write-ends-3 c = omega (arith, sizes (c .before .before .before .before .before .before .loop .inv))
 
 sub-depth : tie.Need-sub-depth Inv-loop μ-loop
-sub-depth c =
-    let e = c .before .before in
-    some-block _ (at-end (e .before) (e .if2 .left))
+sub-depth c = let e = c .before .before in some-block (at-end (e .before) (e .if2 .left))
 
 sub-loops : tie.Need-sub-loops Inv-loop μ-loop
 sub-loops c =
     let e = c .before .before .before .before in
-    some-loop _ (at-end (e .before) (e .if2 .left)) (c .if4 .taken)
+    some-loop (at-end (e .before) (e .if2 .left)) (c .if4 .taken)
 
 loop-again : tie.Need-loop-again Inv-loop μ-loop
 loop-again c =
@@ -150,17 +149,17 @@ loop-again c =
     (⊎-elim
     (λ w. carried (w .5) (w .6) (w .7) (open-next s b (w .0 .taken) true _ (sym (w .3 .given .1) ∙ w .1 .ensures)))
     (⊎-elim
-    (λ w. carried (w .4) (w .5) (w .6) (else-next _ (at-end j (w .0 .left)) (w .2 .taken)))
+    (λ w. carried (w .4) (w .5) (w .6) (else-next (at-end j (w .0 .left)) (w .2 .taken)))
     (⊎-elim
-    (λ w. carried (w .5) (w .6) (w .7) (close-loop-next _ (at-end j (w .0 .left)) (w .4 .taken)))
-    (λ w. carried (w .5) (w .6) (w .7) (close-next _ (at-end j (w .0 .left)) (w .2 .left) (w .4 .left)))))))
+    (λ w. carried (w .5) (w .6) (w .7) (close-next (at-end j (w .0 .left)) true (eq-eqb _ 25 (w .4 .taken)) (w .2 .left)))
+    (λ w. carried (w .5) (w .6) (w .7) (close-next (at-end j (w .0 .left)) false (ne-eqb _ 25 (w .4 .left)) (w .2 .left)))))))
     (c .if2 .came)
 
 same-length-2 : tie.Need-same-length-2 Inv-loop μ-loop
 same-length-2 c = c .before .loop .inv .size
 
 returns-2 : tie.Need-returns-2 Inv-loop μ-loop
-returns-2 c = row-there _ _ _ (all-closed (c .before .loop .inv) (c .loop-test .left))
+returns-2 c = row-there _ _ _ (finished _ _ _ (c .before .loop .inv .stage) (c .loop-test .left))
 
 pub row-within-spec : {M : Type 1} → statement M
 row-within-spec =

@@ -4,7 +4,7 @@ use mathlib.Core.Path.{_≡_, refl, sym, _∙_}
 use native.Mathlib.Omega.{arith}
 use lib.ListN.{length, drop}
 use Rattle.rules.specs.Rows.{firstBackward}
-use Rattle.rows.proofs.SearchLaws.{backward-here, backward-later, backward-none}
+use Rattle.rows.proofs.SearchLaws.{backward-turn, backward-none}
 use Rattle.rows.proofs.range.check_forward_control_flow_targets.Statement.{statement}
 use Rattle.rows.proofs.range.check_forward_control_flow_targets.Tie as tie
 
@@ -23,14 +23,14 @@ returns c =
     let b = c .before in
     let l = b .before .before in
     let n = l .before .loop .inv in
-    sym (n .2 ∙ backward-here _ _ _ (omega arith) (sym (b .is-backward .ensures) ∙ c .if1 .taken))
+    sym (n .2 ∙ backward-turn _ _ _ (omega arith) (sym (b .is-backward .ensures) ∙ c .if1 .taken))
 
 loop-again : tie.Need-loop-again Inv-loop μ-loop
 loop-again c =
     let b = c .before in
     let l = b .before .before in
     let n = l .before .loop .inv in
-    (refl, omega arith, n .2 ∙ backward-later _ _ _ (omega arith) (sym (b .is-backward .ensures) ∙ c .if1 .left))
+    (refl, omega arith, n .2 ∙ backward-turn _ _ _ (omega arith) (sym (b .is-backward .ensures) ∙ c .if1 .left))
 
 returns-2 : tie.Need-returns-2 Inv-loop μ-loop
 returns-2 c = sym (c .before .loop .inv .2 ∙ backward-none _ _ _ (omega arith))

@@ -2,14 +2,14 @@
 use mathlib.Core.Path.{_≡_, sym}
 use Prim.Native.Nat.{_<_}
 use native.Mathlib.Omega.{arith}
-use borrow.Author.Tests.{ne-eqb}
+use borrow.Author.Tests.{eq-eqb, ne-eqb}
 use borrow.Author.Needs.{needs}
 use lib.ListN.{length}
 use Rattle.rules.specs.Kinds as K
 use Rattle.rules.specs.Outcome.{found}
 use Rattle.rules.specs.Rows.{firstOf}
 use Rattle.rows.proofs.SearchLaws.{first-within}
-use Rattle.rows.proofs.RangeLaws.{no-stream, no-reset, positions}
+use Rattle.rows.proofs.RangeLaws.{positions}
 use Rattle.rows.proofs.range.range_of.Statement.{statement}
 use Rattle.rows.proofs.range.range_of.Tie as tie
 
@@ -22,7 +22,7 @@ enum-told c = search needs
 returns-2 : tie.Need-returns-2
 returns-2 c =
     let f = c .before .before in
-    no-stream _ _ (f .before .if1 .left) (rw (c .enum-told .given .1) at (f .first-of .ensures))
+    simp (eq-eqb _ K.StreamType (f .before .if1 .left), ← (rw (c .enum-told .given .1) at (f .first-of .ensures)))
 
 -- the first Stream
 stream : (c : tie.After-first-of2) → let s = c .before .before in
@@ -32,7 +32,7 @@ stream c = rw (c .before .before .stream .given .1) at (c .before .before .befor
 returns-3 : tie.Need-returns-3
 returns-3 c =
     let f = c .before .before in
-    no-reset _ _ (f .before .before .before .before .before .if1 .left) _ (stream f) (rw (c .enum-told2 .given .1) at (f .first-of2 .ensures))
+    simp (eq-eqb _ K.StreamType (f .before .before .before .before .before .if1 .left), ← stream f, ← (rw (c .enum-told2 .given .1) at (f .first-of2 .ensures)))
 
 -- it lies in the list
 stream-within : (c : tie.After-known-told2) → let s = c .before .before .before .before .before in

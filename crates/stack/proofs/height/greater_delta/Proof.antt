@@ -2,7 +2,7 @@
 -- Assumes nothing.
 use mathlib.Core.Path.{ap}
 use Rattle.stack.specs.Levels.{deltaOf}
-use Rattle.stack.proofs.HeightLaws.{greater-first, greater-second, greater-up, greater-same}
+use Rattle.stack.proofs.HeightLaws.{greater-first, greater-second, greater-both}
 use borrow.Author.Needs.{needs}
 use Rattle.stack.proofs.height.greater_delta.Statement.{statement}
 use Rattle.stack.proofs.height.greater_delta.Tie as tie
@@ -22,14 +22,14 @@ returns-3 : tie.Need-returns-3
 returns-3 c =
     let k = c .before .before .before .before in
     let a = k .before .before .before .args in
-    greater-up (deltaOf (a .a)) (deltaOf (a .b)) _ (ap deltaOf (k .before .a .given .1)) _ (ap deltaOf (c .before .before .b .given .1))
+    greater-both (deltaOf (a .a)) (deltaOf (a .b)) _ (ap deltaOf (k .before .a .given .1)) _ (ap deltaOf (c .before .before .b .given .1))
     (record { sfits = k .known-told .given .0 .1 }) (record { sfits = c .before .known-told2 .given .0 .1 }) (c .if1 .taken)
 
 returns-4 : tie.Need-returns-4
 returns-4 c =
     let k = c .before .before .before .before in
     let a = k .before .before .before .args in
-    greater-same (deltaOf (a .a)) (deltaOf (a .b)) _ (ap deltaOf (k .before .a .given .1)) _ (ap deltaOf (c .before .before .b .given .1))
+    greater-both (deltaOf (a .a)) (deltaOf (a .b)) _ (ap deltaOf (k .before .a .given .1)) _ (ap deltaOf (c .before .before .b .given .1))
     (record { sfits = k .known-told .given .0 .1 }) (record { sfits = c .before .known-told2 .given .0 .1 }) (c .if1 .left)
 
 pub greater-delta-spec : {M : Type 1} → statement M

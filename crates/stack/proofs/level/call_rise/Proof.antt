@@ -3,9 +3,10 @@
 use mathlib.Core.Path.{_≡_, _∙_}
 use Prim.Native.Nat.{_≤_}
 use native.Mathlib.Omega.{arith}
-use Rattle.rules.specs.Ops.{fieldA}
+use Rattle.rules.specs.Ops.{fieldA, fieldB}
 use Rattle.rules.specs.Stack.{calleeSlots}
-use Rattle.stack.proofs.LevelLaws.{rise-fits, rise-small, rise-one, rise-own}
+use Rattle.stack.proofs.SignedLaws.{difference-fits}
+use Rattle.stack.proofs.LevelLaws.{rise-small, rise-is}
 use borrow.Author.Needs.{needs}
 use Rattle.stack.proofs.level.call_rise.Statement.{statement}
 use Rattle.stack.proofs.level.call_rise.Tie as tie
@@ -19,21 +20,19 @@ slots c =
     (omega (arith, c .before .before .shared-slice-known .given (fieldA (a .w))), e)
 
 sub-rise : tie.Need-sub-rise
-sub-rise c =
-    let a = c .before .before .before .before .args in
-    rise-fits (a .callees .now) (a .w) _ (slots (c .before) .0) (slots (c .before) .1)
+sub-rise c = difference-fits (c .before .slots-in .result .0) (fieldB (c .before .before .before .before .args .w)) (omega (arith, slots (c .before) .0))
 
 returns : tie.Need-returns
 returns c =
     let a = c .before .before .before .before .before .args in
     let s = slots (c .before .before) in
-    (rise-one (a .callees .now) (a .w) _ (s .0) (s .1) (c .if1 .taken), omega arith)
+    (rise-is (a .callees .now) (a .w) _ (s .0) (s .1) (c .if1 .taken), omega arith)
 
 returns-2 : tie.Need-returns-2
 returns-2 c =
     let a = c .before .before .before .before .before .args in
     let s = slots (c .before .before) in
-    let e = rise-own (a .callees .now) (a .w) _ (s .0) (s .1) (c .if1 .left) in
+    let e = rise-is (a .callees .now) (a .w) _ (s .0) (s .1) (c .if1 .left) in
     (e, rw e (rise-small (a .callees .now) (a .w) _ (s .0) (s .1)))
 
 pub call-rise-spec : {M : Type 1} → statement M

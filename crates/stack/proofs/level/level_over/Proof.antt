@@ -1,19 +1,19 @@
 -- `level_over` gives the level behind an op.
 -- Assumes nothing.
-use Rattle.stack.proofs.LevelLaws.{during-fits, offset-fits, peak-fits, over-up, over-same}
+use native.Mathlib.Omega.{arith}
+use Rattle.stack.proofs.SignedLaws.{sum-fits}
+use Rattle.stack.proofs.LevelLaws.{peak-fits, over-up, over-same}
 use borrow.Author.Needs.{needs}
 use Rattle.stack.proofs.level.level_over.Statement.{statement}
 use Rattle.stack.proofs.level.level_over.Tie as tie
 
 add-during : tie.Need-add-during
-add-during c =
-    let s = c .before .before .before .before in
-    during-fits (s .args .l) (s .args .e) (s .pre .0) (s .pre .1)
+add-during c = let s = c .before .before .before .before in sum-fits (s .args .l .offset) (s .args .e .rise) (omega (arith, s .pre))
 
 add-offset : tie.Need-add-offset
 add-offset c =
     let s = c .before .before .before .before .before .before .before .before in
-    offset-fits (s .args .l) (s .args .e) (s .pre .0) (s .pre .1)
+    sum-fits (s .args .l .offset) (s .args .e .shift) (omega (arith, s .pre))
 
 cast-higher : tie.Need-cast-higher
 cast-higher c =

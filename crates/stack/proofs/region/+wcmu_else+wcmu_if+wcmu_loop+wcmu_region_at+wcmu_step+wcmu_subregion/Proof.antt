@@ -6,12 +6,10 @@ use borrow.Author.Needs.{needs}
 use Rattle.rows.specs.Opens.{StepFits}
 use Rattle.rows.proofs.FitLaws.{if-within, if-arm, else-within, then-arm, else-arm, loop-within, loop-body}
 use Rattle.stack.specs.Steps.{StepMeans}
-use Rattle.stack.proofs.RowLaws.{Rest, rest-start, rest-small, rest-fits, rest-end, rest-forward, rest-goes, rest-ends, rest-refused}
+use Rattle.stack.proofs.RowLaws.{Rest, rest-start, rest-small, rest-fits, rest-end, rest-goes, rest-ends, rest-refused}
 use Rattle.stack.proofs.RowLaws.{part-deepest, part-refused, lift-fits, part-done}
-use Rattle.stack.proofs.BlockLaws.{block-part, if-refused, if-joins, else-refused, else-refused-second, else-joins}
-use Rattle.stack.proofs.BlockLaws.{loop-refused, loop-once, loop-uncounted, loop-goes}
-use Rattle.stack.proofs.StepLaws.{Over, over-fits, over, behind-small}
-use Rattle.stack.proofs.StepLaws.{step-if, step-else, step-loop, step-ends, step-break, step-break-if, step-plain}
+use Rattle.stack.proofs.BlockLaws.{block-part, walked-as, if-joins, else-refused-second, else-joins, loop-once, loop-uncounted, loop-goes}
+use Rattle.stack.proofs.StepLaws.{Over, over-fits, over, behind-small, step-if, step-else, step-loop, step-ends, step-break, step-break-if, step-plain}
 use Prim.Native.Nat.{ℕ, _<_, _+_, _-_, _*_}
 use borrow.Fn.Kinds.{In, Out}
 use borrow.Fn.PlainCycle.{Measures, is, falls, and}
@@ -148,7 +146,7 @@ wcmu-else-returns t c to h =
     let f = c .before in
     let w = f .before .before in
     let a = w .before .before .before .before .args in
-    else-refused h (a .behind) (a .constants .now) (a .callees .now) (a .left) _ (w .wcmu-subregion .ensures) (f .first2 .given .1)
+    (rw (← walked-as (a .constants .now) (a .ops .now) (a .callees .now) (a .i) (a .e) (a .left) (a .behind) refl (f .first2 .given .1) (w .wcmu-subregion .ensures) .0), tt)
 
 wcmu-else-wcmu-subregion-requires-2 : wcmu-else-need wcmu-else-lts.Need-wcmu-subregion-requires-2
 wcmu-else-wcmu-subregion-requires-2 t c κs =
@@ -201,7 +199,7 @@ wcmu-if-returns t c to h =
     let f = c .before in
     let w = f .before .before in
     let a = w .before .before .before .before .args in
-    if-refused h (a .behind) (a .constants .now) (a .callees .now) (a .left) _ (w .wcmu-subregion .ensures) (f .part2 .given .1)
+    (rw (← walked-as (a .constants .now) (a .ops .now) (a .callees .now) (a .i) (a .t) (a .left) (a .behind) refl (f .part2 .given .1) (w .wcmu-subregion .ensures) .0), tt)
 
 wcmu-if-join-arms-requires : wcmu-if-need wcmu-if-lts.Need-join-arms-requires
 wcmu-if-join-arms-requires t c κs =
@@ -246,9 +244,11 @@ wcmu-loop-returns : wcmu-loop-need wcmu-loop-lts.Need-returns
 wcmu-loop-returns t c to h =
     let f = c .before in
     let w = f .before .before in
-    let a = w .before .before .before .before .before .args in
-    loop-refused h (a .behind) (a .constants .now) (a .callees .now) (a .left) (w .before .marked .ensures) _ (w .wcmu-subregion .ensures)
-    (f .part2 .given .1)
+    let a = w .before .before .before .before .before .args in (
+      rw (← walked-as (a .constants .now) (a .ops .now) (a .callees .now) (a .i) (a .e) (a .left) (a .behind) (w .before .marked .ensures)
+          (f .part2 .given .1) (w .wcmu-subregion .ensures) .0),
+      tt,
+    )
 
 wcmu-loop-passed-once-requires : wcmu-loop-need wcmu-loop-lts.Need-passed-once-requires
 wcmu-loop-passed-once-requires t c κs =
@@ -330,25 +330,25 @@ wcmu-region-at-loop-less : wcmu-region-at-need wcmu-region-at-lts.Need-loop-less
 wcmu-region-at-loop-less t c =
     let s = c .before in
     let w = s .before .before in
-    omega (arith, rest-forward (w .before .before .loop .inv) (w .wcmu-step .result) (wcmu-region-at-means t w) (s .step .given .1))
+    omega (arith, (rw (s .step .given .1) at (wcmu-region-at-means t w)) .1 .0)
 
 wcmu-region-at-loop-again : wcmu-region-at-need wcmu-region-at-lts.Need-loop-again
 wcmu-region-at-loop-again t c =
     let s = c .before in
     let w = s .before .before in
-    rest-goes (w .before .before .loop .inv) (w .wcmu-step .result) (wcmu-region-at-means t w) (s .step .given .1)
+    rest-goes (w .before .before .loop .inv) (rw (s .step .given .1) at (wcmu-region-at-means t w))
 
 wcmu-region-at-returns : wcmu-region-at-need wcmu-region-at-lts.Need-returns
 wcmu-region-at-returns t c =
     let s = c .before in
     let w = s .before .before in
-    rest-ends (w .before .before .loop .inv) (w .wcmu-step .result) (wcmu-region-at-means t w) (w .before .loop-test .taken) (s .step2 .given .1)
+    rest-ends (w .before .before .loop .inv) (s .step2 .given .0 .0) (w .before .loop-test .taken) (rw (s .step2 .given .1) at (wcmu-region-at-means t w))
 
 wcmu-region-at-returns-2 : wcmu-region-at-need wcmu-region-at-lts.Need-returns-2
 wcmu-region-at-returns-2 t c =
     let s = c .before in
     let w = s .before .before in
-    rest-refused (w .before .before .loop .inv) (w .wcmu-step .result) (wcmu-region-at-means t w) (s .step3 .given .1)
+    rest-refused (w .before .before .loop .inv) _ _ (rw (s .step3 .given .1) at (wcmu-region-at-means t w))
 
 wcmu-region-at-returns-3 : wcmu-region-at-need wcmu-region-at-lts.Need-returns-3
 wcmu-region-at-returns-3 t c = rest-end (c .before .before .loop .inv) (c .before .loop-test .left) (c .height-at .result) (c .height-at .ensures)
@@ -424,46 +424,46 @@ wcmu-step-wcmu-loop-requires t c κs =
 wcmu-step-returns : wcmu-step-need wcmu-step-lts.Need-returns
 wcmu-step-returns t c to h =
     let k = c .before .before in
-    step-plain (wcmu-step-over t (k .before .before) to h) _ _ (k .block-at .ensures to h) (c .enum-told .given .1)
+    step-plain (wcmu-step-over t (k .before .before) to h) _ _ (rw (c .enum-told .given .1) at (k .block-at .ensures to h))
 
 wcmu-step-returns-2 : wcmu-step-need wcmu-step-lts.Need-returns-2
 wcmu-step-returns-2 t c to h =
     let e = c .before in
     let k = e .before .before in
-    step-ends (wcmu-step-over t (k .before .before) to h) _ _ (k .block-at .ensures to h) _ (e .enum-told2 .given .1) (c .ended .ensures)
+    step-ends (wcmu-step-over t (k .before .before) to h) _ _ (rw (e .enum-told2 .given .1) at (k .block-at .ensures to h)) _ (c .ended .ensures)
 
 wcmu-step-returns-3 : wcmu-step-need wcmu-step-lts.Need-returns-3
 wcmu-step-returns-3 t c to h =
     let e = c .before in
     let k = e .before .before in
-    step-break (wcmu-step-over t (k .before .before) to h) _ _ (k .block-at .ensures to h) _ (e .enum-told3 .given .1) (c .ended2 .ensures)
+    step-break (wcmu-step-over t (k .before .before) to h) _ _ (rw (e .enum-told3 .given .1) at (k .block-at .ensures to h)) _ (c .ended2 .ensures)
 
 wcmu-step-returns-4 : wcmu-step-need wcmu-step-lts.Need-returns-4
 wcmu-step-returns-4 t c to h =
     let e = c .before in
     let k = e .before .before in
-    step-break-if (wcmu-step-over t (k .before .before) to h) _ _ (k .block-at .ensures to h) _ (e .enum-told4 .given .1) (c .marked .ensures)
+    step-break-if (wcmu-step-over t (k .before .before) to h) _ _ (rw (e .enum-told4 .given .1) at (k .block-at .ensures to h)) _ (c .marked .ensures)
 
 wcmu-step-returns-5 : wcmu-step-need wcmu-step-lts.Need-returns-5
 wcmu-step-returns-5 t c to h =
     let f = c .before .before in
     let k = f .before .before in
-    step-if (wcmu-step-over t (k .before .before) to h) _ _ (k .block-at .ensures to h)
-    (c .wcmu-if .result) (f .block .given .1) (c .wcmu-if .ensures)
+    step-if (wcmu-step-over t (k .before .before) to h) _ _ (rw (f .block .given .1) at (k .block-at .ensures to h))
+    (c .wcmu-if .result) (c .wcmu-if .ensures)
 
 wcmu-step-returns-6 : wcmu-step-need wcmu-step-lts.Need-returns-6
 wcmu-step-returns-6 t c to h =
     let f = c .before .before in
     let k = f .before .before in
-    step-else (wcmu-step-over t (k .before .before) to h) _ _ (k .block-at .ensures to h)
-    (c .wcmu-else .result) (f .block2 .given .1) (c .wcmu-else .ensures)
+    step-else (wcmu-step-over t (k .before .before) to h) _ _ (rw (f .block2 .given .1) at (k .block-at .ensures to h))
+    (c .wcmu-else .result) (c .wcmu-else .ensures)
 
 wcmu-step-returns-7 : wcmu-step-need wcmu-step-lts.Need-returns-7
 wcmu-step-returns-7 t c to h =
     let f = c .before .before in
     let k = f .before .before in
-    step-loop (wcmu-step-over t (k .before .before) to h) _ _ (k .block-at .ensures to h)
-    (c .wcmu-loop .result) (f .block3 .given .1) (c .wcmu-loop .ensures)
+    step-loop (wcmu-step-over t (k .before .before) to h) _ _ (rw (f .block3 .given .1) at (k .block-at .ensures to h))
+    (c .wcmu-loop .result) (c .wcmu-loop .ensures)
 
 -- what the callees of `wcmu-subregion` ask and give, and what a need of it is
 abbrev wcmu-subregion-calls : ℕ → wcmu-subregion-lts.Claims
