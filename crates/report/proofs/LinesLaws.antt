@@ -11,7 +11,7 @@ use Rattle.rules.specs.Text.{space, newline, lineMost, lineText, linesText}
 use Rattle.text.specs.Field.{fieldText}
 use Rattle.text.specs.Paste.{Put}
 use Rattle.text.proofs.PasteLaws.{then, pasted-none}
-use Rattle.sheets.proofs.TrayLaws.{tray-count, tray-row}
+use Rattle.sheets.proofs.TrayLaws.{tray-size, tray-row}
 
 -- the fields of a line: the chunk, and the numbers of its row
 pub row-line : (c : ℕ) (l : Line) {row : List ℕ} → row ≡ lineNumbers l
@@ -65,7 +65,7 @@ module _ (order numbers : List ℕ) (n at : ℕ) (out : List ℕ) where
           put = λ ls is.
               let before = w .put ls is in
               let fits : at + length (linesText (take j order) ls) ≤ length out = omega (arith, before .1, w .short) in
-              let count = tray-count ls n numbers rows is in
-              let row = tray-row ls numbers (rw (← count) at is) k (omega (arith, count)) in
+              let count : length ls ≡ n = omega (arith, tray-size ls n numbers is) in
+              let row = tray-row ls numbers (rw (← count) at is) k (omega arith) in
               rw (text-more order ls j (omega arith)) (then at (linesText (take j order) ls) _ out fits before (line (getD ls k noLine) row));
         }
