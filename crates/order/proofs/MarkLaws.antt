@@ -8,7 +8,7 @@ use Prim.Native.Nat.{ℕ, _+_, _<_, _≤_}
 use native.Mathlib.Numerals.{add-one}
 use native.Mathlib.Omega.{arith}
 use borrow.Author.Tests.{ne-eqb}
-use lib.ListN.{length, getD, set, replicate, length-append, length-set, getD-replicate}
+use lib.ListN.{getD, set, replicate, length-append, length-set, getD-replicate}
 use lib.Seq.{take-suc-set}
 use Rattle.rules.specs.Order.{Listing, listed, ring, member}
 use Rattle.rules.proofs.Members.{none, apart, not-nil, in-cons, in-head, in-tail, in-behind, in-more, distinct-more, pigeonhole}

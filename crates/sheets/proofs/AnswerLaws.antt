@@ -7,9 +7,8 @@ use Prim.Native.Nat.{ℕ, _*_, _<_, _≤_}
 use native.Mathlib.Omega.{arith}
 use borrow.Author.Tests.{le-leb, lt-leb}
 use lib.ListN.{length, take, drop, replicate}
-use Rattle.rules.specs.Outcome.{ok, Outcome, answer, refused}
+use Rattle.rules.specs.Outcome.{Outcome, answer, refused}
 use Rattle.rules.specs.Form.{Chunk}
-use Rattle.rules.specs.Reading.{read}
 use Rattle.rules.specs.Sheet as R
 use Rattle.rules.specs.Sheet.{readOutcome, sheetOf, sheetOutcome, lineWidth, sheetRoom, trayNumbers, sheetTray}
 use Rattle.words.specs.Parts.{chunksIn}
