@@ -1,17 +1,16 @@
 -- The parts that stand behind a chunk's head are those of the definition's chunk, and the next head stands behind them.
 -- Assumes nothing.
 use mathlib.Core.Path.{_≡_, refl, sym, ap, _∙_, fun-ext}
-use mathlib.Core.Bool.{Bool, false, and-false}
+use mathlib.Core.Bool.{Bool}
 use mathlib.Core.List.{List, [], _∷_, _++_, flatMap}
-use Prim.Native.Nat.{ℕ, zero, suc, _+_, _-_, _<_, _≤_}
+use Prim.Native.Nat.{ℕ, zero, suc, _+_, _-_, _<_}
 use native.Mathlib.Nat.{add-zero}
 use native.Mathlib.Numerals.{add-one}
 use native.Mathlib.Omega.{arith}
-use borrow.Author.Tests.{le-leb, lt-leb, leb-true, ne-eqb}
-use lib.Dec.{leb}
+use borrow.Author.Tests.{le-leb, ne-eqb}
 use lib.ListN.{length, getD, take, drop, length-append, length-drop}
 use lib.Seq.{drop-drop, getD-drop, take-append-seam, drop-append-seam, drop-append-add}
-use Rattle.rules.specs.Ops.{kind, fieldA, fieldB, word, between}
+use Rattle.rules.specs.Ops.{kind, fieldA, fieldB, word}
 use Rattle.rules.specs.Outcome.{ok}
 use Rattle.rules.specs.Form.{Chunk, chunkWords, constantWords, extraWords, Each, ChunkFits}
 use Rattle.rules.specs.Reading.{takeWhile, read, constantsOf, extrasOf, ofConstants, ofOps, ofExtras}
@@ -22,12 +21,8 @@ use Rattle.rules.proofs.ReadingDecodes.{at-constants, at-ops, at-extras, body, 
 use Rattle.rules.proofs.ReadingAgrees.{read-words}
 use Rattle.words.specs.declared.parts.Parts.{Parts}
 use Rattle.words.specs.Parts.{ofKinds, runOf, behindRun, partsAt, partOf, headAt, PartsOf}
-use Rattle.words.proofs.Cases.{split, decide}
-
--- a kind outside a stretch
-outside : (low high k : ℕ) → (low ≤ k → k ≤ high → ⊥) → between low high k ≡ false
-outside low high k h =
-    decide (leb low k) (λ a. let over : k ≤ high → ⊥ = h (leb-true low k a) in simp (lt-leb k high (omega arith), and-false)) (λ a. simp a)
+use Rattle.words.proofs.Cases.{split}
+use Rattle.words.proofs.RunLaws.{outside}
 
 -- the tests of the parts are tests of stretches
 of-constants : ofKinds 202 203 ≡ ofConstants

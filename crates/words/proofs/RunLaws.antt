@@ -1,18 +1,24 @@
 -- The words at the front of a list whose kinds lie between two: one word more, and where they stop.
 -- Assumes nothing.
 use mathlib.Core.Path.{_≡_}
-use mathlib.Core.Bool.{Bool}
+use mathlib.Core.Bool.{Bool, false, and-false}
 use mathlib.Core.List.{List, [], _∷_}
 use Prim.Native.Nat.{ℕ, suc, _+_, _<_, _≤_}
 use native.Mathlib.Numerals.{add-one}
 use native.Mathlib.Omega.{arith}
-use borrow.Author.Tests.{le-leb, lt-leb}
+use borrow.Author.Tests.{le-leb, lt-leb, leb-true}
+use lib.Dec.{leb}
 use lib.ListN.{length, getD, drop, drop-of-length-le, length-drop}
 use lib.Seq.{drop-cons}
-use Rattle.rules.specs.Ops.{kind}
+use Rattle.rules.specs.Ops.{kind, between}
 use Rattle.rules.specs.Reading.{takeWhile}
 use Rattle.words.specs.Parts.{ofKinds, runOf}
 use Rattle.words.proofs.Cases.{decide}
+
+-- a kind outside a stretch
+pub outside : (low high k : ℕ) → (low ≤ k → k ≤ high → ⊥) → between low high k ≡ false
+outside low high k h =
+    decide (leb low k) (λ a. let over : k ≤ high → ⊥ = h (leb-true low k a) in simp (lt-leb k high (omega arith), and-false)) (λ a. simp a)
 
 module _ (low high : ℕ) (ws : List ℕ) (i : ℕ) where
   pub run-more : i < length ws → low ≤ kind (getD ws i 0) → kind (getD ws i 0) ≤ high
@@ -20,13 +26,9 @@ module _ (low high : ℕ) (ws : List ℕ) (i : ℕ) where
   unfolding takeWhile
   run-more h a b = rw (add-one i, drop-cons ws i 0) (simp (le-leb low _ a, le-leb _ high b))
 
-  pub run-below : i < length ws → kind (getD ws i 0) < low → length (runOf low high (drop i ws)) ≡ 0
+  pub run-out : i < length ws → (low ≤ kind (getD ws i 0) → kind (getD ws i 0) ≤ high → ⊥) → length (runOf low high (drop i ws)) ≡ 0
   unfolding takeWhile
-  run-below h a = rw (drop-cons ws i 0) (simp (lt-leb low _ a))
-
-  pub run-above : i < length ws → low ≤ kind (getD ws i 0) → high < kind (getD ws i 0) → length (runOf low high (drop i ws)) ≡ 0
-  unfolding takeWhile
-  run-above h a b = rw (drop-cons ws i 0) (simp (le-leb low _ a, lt-leb _ high b))
+  run-out h o = rw (drop-cons ws i 0) (simp (outside low high _ o))
 
   pub run-end : length ws ≤ i → length (runOf low high (drop i ws)) ≡ 0
   unfolding takeWhile
