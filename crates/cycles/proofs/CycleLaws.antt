@@ -1,4 +1,4 @@
--- How the cycle walk goes on at an op, behind an If, an Else and a Loop, said of plain values: what the functions' proofs cite.
+-- A body with a level left, an empty stretch, a charge as the code has it, and an op with open text: what the functions' proofs cite.
 -- Assumes nothing.
 use mathlib.Core.Path.{_≡_, refl, sym, _∙_}
 use mathlib.Core.Bool.{true, false}
@@ -17,8 +17,6 @@ use Rattle.words.proofs.Cases.{result}
 use Rattle.rows.specs.Tree.{HasRow}
 use Rattle.rows.proofs.TreeLaws.{OpensAs, tree-empty}
 use Rattle.rows.proofs.Openings.{opened}
-use Rattle.cycles.specs.declared.sums.Breaks.{Breaks}
-use Rattle.cycles.specs.declared.region.Cost.{Cost}
 use Rattle.cycles.specs.Answers.{chunkOf, chargeAt, regionCost, partCost}
 use Rattle.cycles.specs.Steps.{cut}
 

@@ -25,7 +25,7 @@ use Rattle.cycles.specs.declared.charge.Charge.the-variants.{Is, OpenTex
 use Rattle.cycles.specs.declared.region.Cost.{Cost}
 use Rattle.cycles.specs.declared.region.Walk as W
 use Rattle.cycles.specs.declared.region.Step.{Step}
-use Rattle.cycles.specs.declared.region.Step.the-variants.{Goes, Ends, Refused}
+use Rattle.cycles.specs.declared.region.Step.the-variants.{Goes, Refused}
 use Rattle.cycles.specs.Answers.{breaksOf, costOf, chunkOf, chargeAt, chargeResult, walkResult, regionCost, partCost}
 use Rattle.cycles.specs.Steps.{cut, stepResult, Means, StepMeans, IfMeans, ElseMeans, LoopMeans, armsTail, endedAt, joined, onePassAt, allPassesAt}
 use Rattle.cycles.proofs.CycleLaws as L

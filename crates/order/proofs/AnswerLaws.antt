@@ -1,4 +1,4 @@
--- What the order's entry point answers and leaves in the tray: refused by the reader, a short tray, a ring, and all chunks listed.
+-- The tray as it is filled, and what the order's entry point answers and leaves in it: refused by the reader, a short tray, a ring, and all chunks listed.
 -- Assumes nothing.
 use mathlib.Core.Path.{_≡_, refl, sym, ap, _∙_}
 use mathlib.Core.List.{List, [], _++_}
