@@ -12,17 +12,16 @@ use Rattle.rules.specs.Kinds as K
 use Rattle.rules.specs.Limits.{noOp}
 use Rattle.rules.specs.Ops.{kind, fieldA, fieldB, opAt}
 use Rattle.rules.specs.Form.{Constant, other}
-use Rattle.rules.specs.Count.{isGetLocal, isSetLocal, isPositive, neverSets, hasIncrement, hasTail}
+use Rattle.rules.specs.Count.{isSetLocal, isPositive, neverSets, hasIncrement, hasTail}
 use Rattle.rules.proofs.Flags.{both}
+use Rattle.words.proofs.Cases.{decide}
 use Rattle.count.proofs.NeverLaws.{neither, never-last, never-more}
 
 -- past the end there is no EndLoop
 pub end-within : (ops : List ℕ) (n : ℕ) {b : Bool} → b ≡ eqb (kind (opAt ops n)) K.EndLoop → not b ≡ false → n < length ops
-end-within ops n {b} e h = go (leb (length ops) n) refl (eqb-true (kind (opAt ops n)) K.EndLoop (sym e ∙ not-false b h))
-  where
-    go : (l : Bool) → leb (length ops) n ≡ l → kind (opAt ops n) ≡ K.EndLoop → n < length ops
-    go true l k = absurd (omega (arith, List·getD-eq-default ops noOp (leb-true (length ops) n l)))
-    go false l k = leb-false (length ops) n l
+end-within ops n {b} e h =
+    let k = eqb-true (kind (opAt ops n)) K.EndLoop (sym e ∙ not-false b h) in
+    decide (leb (length ops) n) (λ l. absurd (omega (arith, List·getD-eq-default ops noOp (leb-true (length ops) n l)))) (λ l. leb-false (length ops) n l)
 
 -- a word that sets v sets e only if they are one
 sets-one : (w v e : ℕ) → isSetLocal v w ≡ true → isSetLocal e w ≡ eqb v e
@@ -37,47 +36,30 @@ regroup-last true true false c = sym (and-true c)
 regroup-last true false true c = refl
 regroup-last true false false c = sym (and-false c)
 
--- the kinds of the five ops that advance v, right before EndLoop at n
-record Advances (ops : List ℕ) (n v : ℕ) : Type 0 where
-  get : kind (opAt ops (n - 5)) ≡ K.GetLocal
-  step : kind (opAt ops (n - 4)) ≡ K.Const
-  add : kind (opAt ops (n - 3)) ≡ K.CheckedAdd
-  pop : kind (opAt ops (n - 2)) ≡ K.PopN
-  set : isSetLocal v (opAt ops (n - 1)) ≡ true
-
-advances : (cs : List Constant) (ops : List ℕ) (n v : ℕ) → hasIncrement cs ops n v ≡ true → Advances ops n v
+-- of the five ops that advance v, right before EndLoop at n, SetLocal v is the last; none of the four before it sets a slot, so that the pass can end
+-- before them
+advances : (cs : List Constant) (ops : List ℕ) (n v : ℕ) → hasIncrement cs ops n v ≡ true
+    → (isSetLocal v (opAt ops (n - 1)) ≡ true)
+    × ((s m i : ℕ) → i + m + 5 ≡ n → neverSets ops s (suc (suc (suc (suc m)))) i ≡ neverSets ops s m i)
 advances cs ops n v h =
-    let w = opAt ops (n - 4) in
-    let get = isGetLocal v (opAt ops (n - 5)) in
-    let step = get && eqb (kind w) K.Const in
-    let positive = step && isPositive (getD cs (fieldA w) other) in
-    let add = positive && eqb (kind (opAt ops (n - 3))) K.CheckedAdd in
-    let pop = add && eqb (kind (opAt ops (n - 2))) K.PopN in
-    let two = pop && eqb (fieldB (opAt ops (n - 2))) 2 in
-    let a = both two (isSetLocal v (opAt ops (n - 1))) h in
-    let b = both add (eqb (kind (opAt ops (n - 2))) K.PopN) (both pop (eqb (fieldB (opAt ops (n - 2))) 2) (a .0) .0) in
-    let c = both positive (eqb (kind (opAt ops (n - 3))) K.CheckedAdd) (b .0) in
-    let d = both get (eqb (kind w) K.Const) (both step (isPositive (getD cs (fieldA w) other)) (c .0) .0) in
-    let e = both (eqb (kind (opAt ops (n - 5))) K.GetLocal) (eqb (fieldA (opAt ops (n - 5))) v) (d .0) in
-    record {
-      get = eqb-true _ K.GetLocal (e .0);
-      step = eqb-true _ K.Const (d .1);
-      add = eqb-true _ K.CheckedAdd (c .1);
-      pop = eqb-true _ K.PopN (b .1);
-      set = a .1;
-    }
-
--- none of the four before SetLocal v sets a slot, so that the pass can end before them
-before-advance : {ops : List ℕ} {n v : ℕ} → Advances ops n v → (s m i : ℕ) → i + m + 5 ≡ n → neverSets ops s (suc (suc (suc (suc m)))) i ≡ neverSets ops s m i
-before-advance {ops} {n} {v} a s m i e =
-    let at5 : i + m ≡ n - 5 = omega arith in
-    let at4 : i + suc m ≡ n - 4 = omega arith in
-    let at3 : i + suc (suc m) ≡ n - 3 = omega arith in
-    let at2 : i + suc (suc (suc m)) ≡ n - 2 = omega arith in
-    never-more ops s (suc (suc (suc m))) i (rw (at2, a .pop))
-    ∙ never-more ops s (suc (suc m)) i (rw (at3, a .add))
-    ∙ never-more ops s (suc m) i (rw (at4, a .step))
-    ∙ never-more ops s m i (rw (at5, a .get))
+    let (two, set) = both _ (isSetLocal v (opAt ops (n - 1))) h in
+    let pops = both _ (eqb (fieldB (opAt ops (n - 2))) 2) two .0 in
+    let (adds, pop) = both _ (eqb (kind (opAt ops (n - 2))) K.PopN) pops in
+    let (positive, add) = both _ (eqb (kind (opAt ops (n - 3))) K.CheckedAdd) adds in
+    let steps = both _ (isPositive (getD cs (fieldA (opAt ops (n - 4))) other)) positive .0 in
+    let (gets, step) = both _ (eqb (kind (opAt ops (n - 4))) K.Const) steps in
+    let get = both (eqb (kind (opAt ops (n - 5))) K.GetLocal) _ gets .0 in (
+      set,
+      λ s m i e.
+          let at5 : i + m ≡ n - 5 = omega arith in
+          let at4 : i + suc m ≡ n - 4 = omega arith in
+          let at3 : i + suc (suc m) ≡ n - 3 = omega arith in
+          let at2 : i + suc (suc (suc m)) ≡ n - 2 = omega arith in
+          never-more ops s (suc (suc (suc m))) i (rw (at2, eqb-true (kind (opAt ops (n - 2))) K.PopN pop))
+          ∙ never-more ops s (suc (suc m)) i (rw (at3, eqb-true (kind (opAt ops (n - 3))) K.CheckedAdd add))
+          ∙ never-more ops s (suc m) i (rw (at4, eqb-true (kind (opAt ops (n - 4))) K.Const step))
+          ∙ never-more ops s m i (rw (at5, eqb-true (kind (opAt ops (n - 5))) K.GetLocal get)),
+    )
 
 module _ (cs : List Constant) (ops : List ℕ) (p n v e : ℕ) where
   abbrev closed : Bool
@@ -85,22 +67,18 @@ module _ (cs : List Constant) (ops : List ℕ) (p n v e : ℕ) where
 
   -- behind the increment v is set by the last op, so e is another slot, and one pass over the ops before it is enough for both
   pub tail-once : p + 10 ≤ n → hasTail cs ops p n v e ≡ (closed && hasIncrement cs ops n v && (not (eqb v e) && neither ops v e (n - (p + 10)) (p + 5)))
-  tail-once l = go (hasIncrement cs ops n v) refl
-    where
-      go : (b : Bool) → hasIncrement cs ops n v ≡ b
-          → (closed && b && neverSets ops e (n - (p + 5)) (p + 5) && neverSets ops v (n - (p + 6)) (p + 5))
-          ≡ (closed && b && (not (eqb v e) && neither ops v e (n - (p + 10)) (p + 5)))
-      go false k = rw (and-false closed)
-      go true k =
-          let a = advances cs ops n v k in
-          let m = n - (p + 10) in
-          let near : n - (p + 6) ≡ suc (suc (suc (suc m))) = omega arith in
-          let far : n - (p + 5) ≡ suc (suc (suc (suc (suc m)))) = omega arith in
-          let last : p + 5 + suc (suc (suc (suc m))) ≡ n - 1 = omega arith in
-          let end : p + 5 + m + 5 ≡ n = omega arith in
-          let set = sets-one (opAt ops (n - 1)) v e (a .set) in
-          rw (near, far, never-last ops e (suc (suc (suc (suc m)))) (p + 5), last, set, before-advance a v m (p + 5) end, before-advance a e m (p + 5) end)
-          (regroup-last (closed && true) (neverSets ops e m (p + 5)) (eqb v e) (neverSets ops v m (p + 5)))
+  tail-once l =
+      decide (hasIncrement cs ops n v)
+      (λ k.
+      let (sets, past) = advances cs ops n v k in
+      let m = n - (p + 10) in
+      let near : n - (p + 6) ≡ suc (suc (suc (suc m))) = omega arith in
+      let far : n - (p + 5) ≡ suc (suc (suc (suc (suc m)))) = omega arith in
+      let last : p + 5 + suc (suc (suc (suc m))) ≡ n - 1 = omega arith in
+      let end : p + 5 + m + 5 ≡ n = omega arith in
+      rw (k, near, far, never-last ops e (suc (suc (suc (suc m)))) (p + 5), last, sets-one (opAt ops (n - 1)) v e sets, past v m (p + 5) end, past e m (p + 5) end)
+      (regroup-last (closed && true) (neverSets ops e m (p + 5)) (eqb v e) (neverSets ops v m (p + 5))))
+      (λ k. rw (k, and-false closed))
 
   pub short-loop : n < p + 10 → hasTail cs ops p n v e ≡ false
   short-loop h = rw (lt-leb (p + 10) n h)

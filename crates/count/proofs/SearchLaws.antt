@@ -13,31 +13,29 @@ use lib.ListN.{length, getD}
 use mir.Syntax.{w64}
 use mir.Val.{toZ}
 use mir.ValLaws.{toZ-pos}
-use Rattle.rules.specs.Kinds as K
 use Rattle.rules.specs.Outcome.{Found, found, nothing}
 use Rattle.rules.specs.Ops.{kind, fieldA, opAt}
 use Rattle.rules.specs.Form.{Constant, other}
-use Rattle.rules.specs.Count.{Value, unknown, isSetLocal, lastSet, arrayLength, arraySource, atArraySet}
+use Rattle.rules.specs.Count.{Value, unknown, isSetLocal, lastSet, arrayLength, arraySource, constantValue, valueAt, valueBefore, valueOf, lenSource, lengthBefore}
+use Rattle.words.proofs.Cases.{decide}
 use Rattle.words.proofs.OpLaws.{read-op}
-use Rattle.rules.specs.Count.{constantValue, valueAt, valueBefore, valueOf, lenSource, lengthBefore}
 
 -- a field as a signed number
 pub field-value : (w : ℕ) → toZ w64 (fieldA w) ≡ pos (fieldA w)
 field-value w = toZ-pos w64 (fieldA w) (omega arith)
 
+-- what is defined at a later position by the op before it, told by the word that the code reads there
+at-later : {A : Type 0} (ops : List ℕ) (f : ℕ → A) (g : ℕ → ℕ → A) → ((i : ℕ) → f (suc i) ≡ g (opAt ops i) i) → (v : ℕ) → (v ≡ 0 → ⊥) → v ≤ length ops
+    → f v ≡ g (getD ops (v - 1) 0) (v - 1)
+at-later ops f g is zero h b = absurd (h refl)
+at-later ops f g is (suc i) h b = is i ∙ rw (sub-one, read-op ops i (omega arith))
+
 -- one position down
 module _ (ops : List ℕ) (s : ℕ) where
-  step : (i : ℕ) → (i ≡ 0 → ⊥) → i ≤ length ops → lastSet ops i s ≡ cond (isSetLocal s (getD ops (i - 1) 0)) (found (i - 1)) (lastSet ops (i - 1) s)
+  pub last-step : (i : ℕ) → (i ≡ 0 → ⊥) → i ≤ length ops → {t : Bool} → isSetLocal s (getD ops (i - 1) 0) ≡ t
+      → lastSet ops i s ≡ cond t (found (i - 1)) (lastSet ops (i - 1) s)
   unfolding lastSet
-  step zero h b = absurd (h refl)
-  step (suc i) h b = rw (sub-one, read-op ops i (omega arith))
-
-  module _ (i : ℕ) (h : i ≡ 0 → ⊥) (b : i ≤ length ops) where
-    pub last-hit : isSetLocal s (getD ops (i - 1) 0) ≡ true → lastSet ops i s ≡ found (i - 1)
-    last-hit e = rw (step i h b, e)
-
-    pub last-skip : isSetLocal s (getD ops (i - 1) 0) ≡ false → lastSet ops i s ≡ lastSet ops (i - 1) s
-    last-skip e = rw (step i h b, e)
+  last-step i h b e = at-later ops (λ j. lastSet ops j s) (λ w j. cond (isSetLocal s w) (found j) (lastSet ops j s)) (λ j. refl) i h b ∙ rw e
 
   pub last-none : (i : ℕ) → i ≡ 0 → lastSet ops i s ≡ nothing
   unfolding lastSet
@@ -47,11 +45,8 @@ module _ (ops : List ℕ) (s : ℕ) where
   below-start : (n v : ℕ) → lastSet ops n s ≡ found v → v < n
   unfolding lastSet
   below-start zero v e = let z : _≡_ {A = ℕ} 0 1 = cc in omega arith
-  below-start (suc n) v e = go (isSetLocal s (opAt ops n)) e (below-start n v)
-    where
-      go : (t : Bool) → cond t (found n) (lastSet ops n s) ≡ found v → (lastSet ops n s ≡ found v → v < n) → v < suc n
-      go true q ih = let z : n ≡ v = cc in omega arith
-      go false q ih = omega (arith, ih q)
+  below-start (suc n) v e =
+      decide (isSetLocal s (opAt ops n)) (λ t. let z : n ≡ v = cc (rw t at e) in omega arith) (λ t. omega (arith, below-start n v (rw t at e)))
 
 -- The search below n finds the slot's SetLocal at v, which is not the first op.
 pub record SetAt (ops : List ℕ) (n s v : ℕ) : Type 0 where
@@ -64,7 +59,7 @@ pub set-at : (ops : List ℕ) (n s v : ℕ) → lastSet ops n s ≡ found v → 
 set-at ops n s v e h b = record { set = e; later = h; below = below-start ops s n v e; within = b }
 
 -- the array's length, told by the search
-abbrev atArray : List ℕ → Found → Value
+abbrev pub atArray : List ℕ → Found → Value
 atArray ops nothing = unknown
 atArray ops (found zero) = unknown
 atArray ops (found (suc i)) = arraySource (opAt ops i) (λ s. arrayLength ops i s)
@@ -72,39 +67,18 @@ atArray ops (found (suc i)) = arraySource (opAt ops i) (λ s. arrayLength ops i 
 by-search : (ops : List ℕ) (n s : ℕ) → arrayLength ops n s ≡ atArray ops (lastSet ops n s)
 unfolding arrayLength lastSet
 by-search ops zero s = refl
-by-search ops (suc zero) s = go (isSetLocal s (opAt ops 0))
-  where
-    go : (t : Bool) → unknown ≡ atArray ops (cond t (found 0) nothing)
-    go true = refl
-    go false = refl
-by-search ops (suc (suc i)) s = go (isSetLocal s (opAt ops (suc i))) (by-search ops (suc i) s)
-  where
-    go : (t : Bool) → arrayLength ops (suc i) s ≡ atArray ops (lastSet ops (suc i) s)
-        → atArraySet t (λ u. arrayLength ops i u) (λ u. arrayLength ops (suc i) u) (opAt ops i) s ≡ atArray ops (cond t (found (suc i)) (lastSet ops (suc i) s))
-    go true ih = refl
-    go false ih = ih
+by-search ops (suc zero) s = decide (isSetLocal s (opAt ops 0)) (λ t. rw t) (λ t. rw t)
+by-search ops (suc (suc i)) s = decide (isSetLocal s (opAt ops (suc i))) (λ t. rw t) (λ t. rw t (by-search ops (suc i) s))
 
-module _ (ops : List ℕ) (n s : ℕ) where
-  pub array-none : lastSet ops n s ≡ nothing → arrayLength ops n s ≡ unknown
-  array-none e = by-search ops n s ∙ ap (atArray ops) e
-
-  pub array-first : lastSet ops n s ≡ found 0 → arrayLength ops n s ≡ unknown
-  array-first e = by-search ops n s ∙ ap (atArray ops) e
-
-at-found : (ops : List ℕ) (v : ℕ) → (v ≡ 0 → ⊥) → v ≤ length ops
-    → atArray ops (found v) ≡ arraySource (getD ops (v - 1) 0) (λ t. arrayLength ops (v - 1) t)
-at-found ops zero h b = absurd (h refl)
-at-found ops (suc i) h b = rw (sub-one, read-op ops i (omega arith))
+pub array-told : (ops : List ℕ) (n s : ℕ) {f : Found} → lastSet ops n s ≡ f → arrayLength ops n s ≡ atArray ops f
+array-told ops n s e = by-search ops n s ∙ ap (atArray ops) e
 
 pub array-at : {ops : List ℕ} {n s v : ℕ} → SetAt ops n s v → arrayLength ops n s ≡ arraySource (getD ops (v - 1) 0) (λ t. arrayLength ops (v - 1) t)
-array-at {ops} {n} {s} {v} h = by-search ops n s ∙ ap (atArray ops) (h .set) ∙ at-found ops v (h .later) (omega arith)
+array-at {ops} {n} {s} {v} h =
+    array-told ops n s (h .set)
+    ∙ at-later ops (λ j. atArray ops (found j)) (λ w j. arraySource w (λ t. arrayLength ops j t)) (λ j. refl) v (h .later) (omega arith)
 
--- what stands right before a found SetLocal, and before that
-before-set : (cs : List Constant) (ops : List ℕ) (v : ℕ) → (v ≡ 0 → ⊥) → v ≤ length ops
-    → valueAt cs ops (found v) ≡ valueBefore (eqb (kind (getD ops (v - 1) 0)) 0) cs ops (v - 1)
-before-set cs ops zero h b = absurd (h refl)
-before-set cs ops (suc i) h b = rw (sub-one, read-op ops i (omega arith))
-
+-- what stands right before the op before a found SetLocal
 before-len : (ops : List ℕ) (v : ℕ) → (v ≡ 0 → ⊥) → (v ≡ 1 → ⊥) → v ≤ length ops
     → lenSource ops (v - 1) ≡ lengthBefore (eqb (kind (getD ops (v - 1) 0)) 39 && eqb (kind (getD ops (v - 2) 0)) 1) ops (v - 2)
 before-len ops zero h k b = absurd (h refl)
@@ -116,7 +90,8 @@ before-len ops (suc (suc i)) h k b =
 -- the value of a slot whose SetLocal is found at v
 module _ (cs : List Constant) {ops : List ℕ} {n s v : ℕ} (h : SetAt ops n s v) where
   by-kind : valueOf cs ops n s ≡ valueBefore (eqb (kind (getD ops (v - 1) 0)) 0) cs ops (v - 1)
-  by-kind = rw (h .set) (before-set cs ops v (h .later) (omega arith))
+  by-kind = rw (h .set)
+      (at-later ops (λ j. valueAt cs ops (found j)) (λ w j. valueBefore (eqb (kind w) 0) cs ops j) (λ j. refl) v (h .later) (omega arith))
 
   pub value-constant : kind (getD ops (v - 1) 0) ≡ 0 → valueOf cs ops n s ≡ constantValue (getD cs (fieldA (getD ops (v - 1) 0)) other)
   value-constant k = rw (by-kind, k, read-op ops (v - 1) (omega arith))

@@ -1,19 +1,20 @@
 -- The cycle walk of a chunk from the walk of its parts: what the entry point and the crates above cite.
 -- Assumes nothing.
-use mathlib.Core.Path.{_≡_, refl, sym, _∙_}
+use mathlib.Core.Path.{_≡_, sym, _∙_}
 use mathlib.Core.List.{List}
 use Prim.Native.Nat.{ℕ, _≤_}
 use lib.ListN.{length}
 use Rattle.rules.specs.Outcome.{Result, ok, no, refused, andThen, inChunk}
 use Rattle.rules.specs.Ops.{opAt}
 use Rattle.rules.specs.Form.{Chunk}
-use Rattle.rules.specs.Rows.{Row, Range, chunkRow}
+use Rattle.rules.specs.Rows.{Range, chunkRow}
 use Rattle.rules.specs.Limits.{mostWords, cycleCap}
 use Rattle.rules.specs.Cycles as R
 use Rattle.rules.specs.Sheet.{cyclesOutcome}
 use Rattle.words.specs.declared.parts.Parts.{Parts}
 use Rattle.words.specs.Parts.{partOf, PartsOf}
 use Rattle.words.specs.Lookup.{partsOutcome}
+use Rattle.words.proofs.Cases.{result}
 use Rattle.words.proofs.LookupLaws.{Chunked, lookup-refused}
 use Rattle.rows.specs.Tree.{treeOf}
 use Rattle.rows.specs.Answers.{rangeRow}
@@ -38,11 +39,7 @@ module _ {ws : List ℕ} {p : Parts} (short : length ws ≤ mostWords) {ops : Li
 
 -- a chunk's cycles from its cost
 cycles-are : (k : Chunk) → andThen (chunkCost k) (λ x. ok (R.cyclesOf x)) ≡ R.chunkCycles k
-cycles-are k = go (chunkRow k)
-  where
-    go : (r : Result Row) → andThen (andThen r (λ t. R.cappedCost cycleCap k t)) (λ x. ok (R.cyclesOf x)) ≡ andThen r (λ t. andThen (R.cappedCost cycleCap k t) (λ x. ok (R.cyclesOf x)))
-    go (ok t) = refl
-    go (no n q) = refl
+cycles-are k = result (chunkRow k) (λ t e. rw e) (λ n q e. rw e)
 
 module _ (ws : List ℕ) (c : ℕ) where
   pub lookup-told : (n k q : ℕ) → refused n k q ≡ partsOutcome ws c → refused n k q ≡ cyclesOutcome ws c

@@ -3,5 +3,4 @@ pub mod ScanLaws
 pub mod VisitLaws
 pub mod OrderLaws
 pub mod CoverLaws
-pub mod TrayLaws
 pub mod AnswerLaws

@@ -1,18 +1,18 @@
 -- How the search's state shows its lists: before any visit, where a visit is opened, where its chunk is listed; and what it tells behind a visit.
 -- Assumes nothing.
 use mathlib.Core.Path.{_≡_, refl, sym, ap, _∙_}
-use mathlib.Core.Bool.{Bool, true, false}
+use mathlib.Core.Bool.{true, false}
 use mathlib.Core.List.{List, [], _∷_, _++_}
 use mathlib.Core.Logic.{⊎-elim}
 use Prim.Native.Nat.{ℕ, _+_, _<_, _≤_}
 use native.Mathlib.Numerals.{add-one}
 use native.Mathlib.Omega.{arith}
-use borrow.Author.Tests.{eqb-true, eqb-false, ne-eqb}
-use lib.Dec.{eqb}
-use lib.ListN.{length, getD, set, replicate, length-append, length-set, getD-replicate}
-use lib.Seq.{getD-set-same, getD-set-other, take-suc-set}
+use borrow.Author.Tests.{ne-eqb}
+use lib.ListN.{getD, set, replicate, length-append, length-set, getD-replicate}
+use lib.Seq.{take-suc-set}
 use Rattle.rules.specs.Order.{Listing, listed, ring, member}
 use Rattle.rules.proofs.Members.{none, apart, not-nil, in-cons, in-head, in-tail, in-behind, in-more, distinct-more, pigeonhole}
+use Rattle.words.proofs.Cases.{set-shows}
 use Rattle.order.specs.declared.visit.Search.{Search}
 use Rattle.order.specs.Search.{Shows, Shown}
 
@@ -25,19 +25,6 @@ member-more : (k c : ℕ) (xs : List ℕ) → (k ≡ c → ⊥) → member k (xs
 unfolding member
 member-more k c [] h = member-cons k c [] h
 member-more k c (x ∷ xs) h = rw (member-more k c xs h)
-
--- an array whose marks show the members of a list, below n
-abbrev Marks : ℕ → List Bool → List ℕ → Type 0
-Marks n marks xs = (k : ℕ) → k < n → getD marks k false ≡ member k xs
-
--- one mark set, and the list that differs from the old one at that number alone
-set-mark : (n c : ℕ) (b : Bool) (marks : List Bool) (xs ys : List ℕ) → n ≤ length marks → Marks n marks xs → member c ys ≡ b
-    → ((k : ℕ) → (k ≡ c → ⊥) → member k ys ≡ member k xs) → Marks n (set marks c b) ys
-set-mark n c b marks xs ys room old here others k lt = go (eqb k c) refl
-  where
-    go : (t : Bool) → eqb k c ≡ t → getD (set marks c b) k false ≡ member k ys
-    go true e = let same = eqb-true k c e in rw same (getD-set-same marks c b false (omega arith) ∙ sym here)
-    go false e = getD-set-other marks c k b false (eqb-false k c e) ∙ old k lt ∙ sym (others k (eqb-false k c e))
 
 -- before any chunk is visited
 abbrev pub begun : Search
@@ -76,7 +63,8 @@ module _ (n c : ℕ) (few : n ≤ 256) (s : Search) (opened done : List ℕ) whe
       let a = h .sized .active in
       record {
         seen = h .seen;
-        active = set-mark n c true (s .active) opened (c ∷ opened) (omega arith) (h .active) (in-head c c opened refl) (λ k o. member-cons k c opened o);
+        active = λ k m. set-shows (λ j. member j (c ∷ opened)) (s .active) c _ _ (omega arith) (sym (in-head c c opened refl)) k
+            (λ o. h .active k m ∙ sym (member-cons k c opened o));
         order = h .order;
         count = h .count;
         once = h .once;
@@ -106,10 +94,11 @@ module _ (n c : ℕ) (few : n ≤ 256) (s : Search) (opened done : List ℕ) whe
         let a = h .sized .seen in
         let b = h .sized .active in
         let o = h .sized .order in
+        let lt = h .open-chunks c (in-head c c opened refl) in
         let last = in-behind c done (c ∷ []) (in-head c c [] refl) in
         record {
-          seen = set-mark n c true (s .seen) done (done ++ (c ∷ [])) (omega arith) (h .seen) last (λ k e. member-more k c done e);
-          active = set-mark n c false (s .active) (c ∷ opened) opened (omega arith) (h .active) shut (λ k e. sym (member-cons k c opened e));
+          seen = λ k m. set-shows (λ j. member j (done ++ (c ∷ []))) (s .seen) c _ _ (omega arith) (sym last) k (λ e. h .seen k m ∙ sym (member-more k c done e));
+          active = λ k m. set-shows (λ j. member j opened) (s .active) c _ _ (omega arith) (sym shut) k (λ e. h .active k m ∙ member-cons k c opened e);
           order = rw (add-one, take-suc-set (s .order) (s .count) c (omega (arith, has-room)), h .order);
           count = omega (arith, h .count, length-append done (c ∷ []));
           once = distinct-more done c (h .once) new;

@@ -1,38 +1,30 @@
 -- The scan of a chunk's ops for calls, said of the state that shows the lists: one op more, a visit that meets a ring, and the end.
 -- Assumes nothing.
 use mathlib.Core.Path.{_≡_, refl, ap, _∙_}
-use mathlib.Core.Bool.{Bool, true, false}
 use mathlib.Core.List.{List, _∷_}
 use Prim.Native.Nat.{ℕ, suc, _+_, _-_, _<_, _≤_}
 use native.Mathlib.Numerals.{add-one}
 use native.Mathlib.Omega.{arith}
-use borrow.Author.Tests.{eqb-true, eq-eqb, lt-ltb, le-ltb}
-use lib.Dec.{eqb}
+use borrow.Author.Tests.{eq-eqb, ne-eqb, lt-ltb, le-ltb}
 use lib.ListN.{length, getD}
 use lib.Seq.{drop-cons}
 use Rattle.rules.specs.Ops.{kind, fieldA}
-use Rattle.rules.specs.Order.{Listing, listed, ring, onListed, calleesIn, consIf, visitEach, visit}
+use Rattle.rules.specs.Order.{Listing, listed, ring, onListed, calleesIn, visitEach, visit}
 use Rattle.words.specs.Parts.{partOf, chunksIn}
+use Rattle.words.proofs.Cases.{split}
 use Rattle.order.specs.declared.visit.Search.{Search}
 use Rattle.order.specs.Search.{Shows, Shown}
 use Rattle.order.proofs.MarkLaws.{told-listed, told-ring}
 
-abbrev Visit : Type 0
-Visit = ℕ → List ℕ → Listing
-
 -- one op more: it calls no chunk of the module, or it does
-skip-op : (v : Visit) (n w : ℕ) (ws d : List ℕ) → (kind w ≡ 30 → n ≤ fieldA w) → visitEach v n (calleesIn (w ∷ ws)) d ≡ visitEach v n (calleesIn ws) d
-unfolding visitEach calleesIn
-skip-op v n w ws d h = go (eqb (kind w) 30) refl
-  where
-    go : (b : Bool) → eqb (kind w) 30 ≡ b → visitEach v n (consIf b (fieldA w) (calleesIn ws)) d ≡ visitEach v n (calleesIn ws) d
-    go true e = simp (le-ltb (fieldA w) n (h (eqb-true (kind w) 30 e)))
-    go false e = refl
+module _ (v : ℕ → List ℕ → Listing) (n w : ℕ) (ws d : List ℕ) where
+  skip-op : (kind w ≡ 30 → n ≤ fieldA w) → visitEach v n (calleesIn (w ∷ ws)) d ≡ visitEach v n (calleesIn ws) d
+  unfolding visitEach calleesIn
+  skip-op h = split (kind w) 30 (λ e. simp (eq-eqb (kind w) 30 e, le-ltb (fieldA w) n (h e))) (λ o. simp (ne-eqb (kind w) 30 o))
 
-call-op : (v : Visit) (n w : ℕ) (ws d : List ℕ) → kind w ≡ 30 → fieldA w < n
-    → visitEach v n (calleesIn (w ∷ ws)) d ≡ onListed (v (fieldA w) d) (λ e. visitEach v n (calleesIn ws) e)
-unfolding visitEach calleesIn
-call-op v n w ws d e lt = simp (eq-eqb (kind w) 30 e, lt-ltb (fieldA w) n lt)
+  call-op : kind w ≡ 30 → fieldA w < n → visitEach v n (calleesIn (w ∷ ws)) d ≡ onListed (v (fieldA w) d) (λ e. visitEach v n (calleesIn ws) e)
+  unfolding visitEach calleesIn
+  call-op e lt = simp (eq-eqb (kind w) 30 e, lt-ltb (fieldA w) n lt)
 
 -- What a visit of chunk c gives, by its contract.
 abbrev pub Visited : List ℕ → ℕ → ℕ → ℕ → Search → Search → Type 0

@@ -9,7 +9,7 @@ use native.Mathlib.Omega.{arith}
 use lib.ListN.{length, getD}
 use Rattle.rules.specs.Ops.{kind, fieldA}
 use Rattle.rules.specs.Form.{Chunk}
-use Rattle.rules.specs.Order.{listed, ring, onListed, member, chunkAt, calleesOf, visitEach, visit}
+use Rattle.rules.specs.Order.{listed, onListed, member, chunkAt, calleesOf, visitEach, byMarks, visit}
 use Rattle.rules.proofs.Members.{none, apart}
 use Rattle.rules.proofs.ReadingAgrees.{read-words}
 use Rattle.words.specs.Parts.{partsAt, partOf, chunksIn, headAt, PartsOf}
@@ -19,28 +19,14 @@ use Rattle.order.specs.Search.{Readable, Located, Searchable, Shows}
 use Rattle.order.proofs.MarkLaws.{opening, listing, has-room, shows-opening, shows-listing}
 use Rattle.order.proofs.ScanLaws.{Visited, scan, Rest, rest-visits, rest-ring, rest-end}
 
--- what a visit comes to, by the number that is left and the marks
-module _ (cs : List Chunk) (opened : List ℕ) (c : ℕ) (done : List ℕ) where
-  visit-none : (left : ℕ) → left ≡ 0 → visit cs left opened c done ≡ ring c
-  unfolding visit
-  visit-none left e = rw e
-
-  visit-open : (left : ℕ) → member c opened ≡ true → visit cs left opened c done ≡ ring c
-  unfolding visit
-  visit-open zero e = refl
-  visit-open (suc f) e = simp e
-
-  visit-listed : (left : ℕ) → (left ≡ 0 → ⊥) → member c opened ≡ false → member c done ≡ true → visit cs left opened c done ≡ listed done
-  unfolding visit
-  visit-listed zero some e f = absurd (some refl)
-  visit-listed (suc l) some e f = simp (e, f)
-
-  visit-walks : (left : ℕ) → (left ≡ 0 → ⊥) → member c opened ≡ false → member c done ≡ false
-      → visit cs left opened c done
-      ≡ onListed (visitEach (λ e d. visit cs (left - 1) (c ∷ opened) e d) (length cs) (calleesOf cs c) done) (λ d. listed (d ++ (c ∷ [])))
-  unfolding visit
-  visit-walks zero some e f = absurd (some refl)
-  visit-walks (suc l) some e f = simp (e, f, sub-one)
+-- what a visit comes to by the marks, where a number is left
+visit-some : (cs : List Chunk) (opened : List ℕ) (c : ℕ) (done : List ℕ) (left : ℕ) → (left ≡ 0 → ⊥)
+    → visit cs left opened c done
+    ≡ byMarks (member c opened) (member c done) c done
+    (λ k. onListed (visitEach (λ e d. visit cs (left - 1) (k ∷ opened) e d) (length cs) (calleesOf cs k) done) (λ d. listed (d ++ (k ∷ []))))
+unfolding visit
+visit-some cs opened c done zero some = absurd (some refl)
+visit-some cs opened c done (suc l) some = rw sub-one
 
 -- there are at most 256 chunks
 pub few-chunks : {ws : List ℕ} {n : ℕ} → Readable ws n → n ≤ 256
@@ -63,17 +49,18 @@ ringed c s = record { seen = s .seen; active = s .active; order = s .order; coun
 
 module _ {ws ops extras : List ℕ} {n c : ℕ} {s : Search} (p : Searchable ws ops extras n c s) (left : ℕ) where
   pub visited-none : left ≡ 0 → Visited ws n left c s (ringed c s)
-  visited-none e opened done h = rw (visit-none (chunksIn ws) opened c done left e) (refl, p .chunk)
+  unfolding visit
+  visited-none e opened done h = rw e (refl, p .chunk)
 
-  pub visited-open : getD (s .active) c false ≡ true → Visited ws n left c s (ringed c s)
-  visited-open e opened done h = rw (visit-open (chunksIn ws) opened c done left (sym (h .active c (p .chunk)) ∙ e)) (refl, p .chunk)
+  pub visited-open : (left ≡ 0 → ⊥) → getD (s .active) c false ≡ true → Visited ws n left c s (ringed c s)
+  visited-open some e opened done h = rw (visit-some (chunksIn ws) opened c done left some, sym (h .active c (p .chunk)) ∙ e) (refl, p .chunk)
 
   -- a listed chunk is not open, so its visit leaves the state
   pub visited-listed : (left ≡ 0 → ⊥) → getD (s .seen) c false ≡ true → Visited ws n left c s s
   visited-listed some e opened done h =
       let there : member c done ≡ true = sym (h .seen c (p .chunk)) ∙ e in
       let shut = none c opened (λ i. apart c done (h .apart c i) there) in
-      rw (visit-listed (chunksIn ws) opened c done left some shut there) h
+      rw (visit-some (chunksIn ws) opened c done left some, shut, there) h
 
 -- what is known where the visit of chunk c is opened
 pub record Opens (ws ops extras : List ℕ) (n left c : ℕ) (s : Search) : Type 0 where
@@ -118,7 +105,7 @@ module _ {ws ops extras : List ℕ} {n left c : ℕ} {s : Search} (o : Opens ws 
       → visit (chunksIn ws) left opened c done ≡ onListed (scan ws n (left - 1) (c ∷ opened) (getD ops c 0) (getD extras c 0) done) (λ d. listed (d ++ (c ∷ [])))
   whole opened done h =
       rw (ops-there (o .asked .places) c below, o .asked .places .words .chunks)
-      (visit-walks (chunksIn ws) opened c done left (o .some) (sym (h .active c below) ∙ o .shut) (sym (h .seen c below) ∙ o .new))
+      (visit-some (chunksIn ws) opened c done left (o .some) ∙ rw (sym (h .active c below) ∙ o .shut, sym (h .seen c below) ∙ o .new))
 
   module _ {i : ℕ} {t : Search} (rest : Rest ws n (left - 1) c (opening c s) (getD extras c 0) (getD ops c 0) i t) where
     pub visited-ring : (u : Search) → i < getD extras c 0 → kind (getD ws i 0) ≡ 30 → fieldA (getD ws i 0) < n

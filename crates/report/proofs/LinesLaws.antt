@@ -1,17 +1,16 @@
 -- The lines of a sheet, printed in order: a line by its fields, one line more, and a text written over a list, one line a turn. Assumes nothing.
 use mathlib.Core.Path.{_≡_, refl, sym, _∙_}
 use mathlib.Core.List.{List, [], _∷_, _++_, flatten, append-assoc, append-nil}
-use Prim.Native.Nat.{ℕ, _+_, _*_, _<_, _≤_}
+use Prim.Native.Nat.{ℕ, zero, suc, _+_, _*_, _<_, _≤_}
 use native.Mathlib.Numerals.{add-one}
 use native.Mathlib.Omega.{arith}
 use lib.ListN.{length, getD, take, drop}
-use lib.Seq.{take-suc}
 use Rattle.rules.specs.Sheet.{Line, noLine, lineNumbers, lineWidth, trayNumbers}
 use Rattle.rules.specs.Text.{space, newline, lineMost, lineText, linesText}
 use Rattle.text.specs.Field.{fieldText}
 use Rattle.text.specs.Paste.{Put}
 use Rattle.text.proofs.PasteLaws.{then, pasted-none}
-use Rattle.sheets.proofs.TrayLaws.{tray-count, tray-row}
+use Rattle.sheets.proofs.TrayLaws.{tray-size, tray-row}
 
 -- the fields of a line: the chunk, and the numbers of its row
 pub row-line : (c : ℕ) (l : Line) {row : List ℕ} → row ≡ lineNumbers l
@@ -20,21 +19,13 @@ pub row-line : (c : ℕ) (l : Line) {row : List ℕ} → row ≡ lineNumbers l
 unfolding flatten fieldText
 row-line c l is = rw is (simp (append-assoc, append-nil))
 
-text-append : (xs ys : List ℕ) (lines : List Line) → linesText (xs ++ ys) lines ≡ linesText xs lines ++ linesText ys lines
-unfolding linesText
-text-append [] ys lines = refl
-text-append (x ∷ xs) ys lines =
-    rw (text-append xs ys lines) (sym (append-assoc (lineText x (getD lines x noLine)) (linesText xs lines) (linesText ys lines)))
-
-text-one : (x : ℕ) (lines : List Line) → linesText (x ∷ []) lines ≡ lineText x (getD lines x noLine)
-unfolding linesText
-text-one x lines = append-nil (lineText x (getD lines x noLine))
-
 -- one line more
 text-more : (order : List ℕ) (lines : List Line) (j : ℕ) → j < length order
-    → linesText (take (j + 1) order) lines ≡ linesText (take j order) lines ++ lineText (getD order j 0) (getD lines (getD order j 0) noLine)
-text-more order lines j h =
-    rw (add-one j, take-suc order j 0 h, text-append (take j order) (getD order j 0 ∷ []) lines, text-one (getD order j 0) lines)
+    → linesText (take (suc j) order) lines ≡ linesText (take j order) lines ++ lineText (getD order j 0) (getD lines (getD order j 0) noLine)
+unfolding linesText
+text-more [] lines j h = absurd (omega arith)
+text-more (x ∷ order) lines zero h = append-nil (lineText x (getD lines x noLine))
+text-more (x ∷ order) lines (suc j) h = rw (text-more order lines j (omega arith)) (sym (append-assoc (lineText x (getD lines x noLine)) _ _))
 
 module _ (order numbers : List ℕ) (n at : ℕ) (out : List ℕ) where
   -- after j turns: the first j lines are written, whatever lines the rows are those of, and they are short
@@ -65,7 +56,7 @@ module _ (order numbers : List ℕ) (n at : ℕ) (out : List ℕ) where
           put = λ ls is.
               let before = w .put ls is in
               let fits : at + length (linesText (take j order) ls) ≤ length out = omega (arith, before .1, w .short) in
-              let count = tray-count ls n numbers rows is in
-              let row = tray-row ls numbers (rw (← count) at is) k (omega (arith, count)) in
-              rw (text-more order ls j (omega arith)) (then at (linesText (take j order) ls) _ out fits before (line (getD ls k noLine) row));
+              let count : length ls ≡ n = omega (arith, tray-size ls n numbers is) in
+              let row = tray-row ls numbers (rw (← count) at is) k (omega arith) in
+              rw (add-one j, text-more order ls j (omega arith)) (then at (linesText (take j order) ls) _ out fits before (line (getD ls k noLine) row));
         }

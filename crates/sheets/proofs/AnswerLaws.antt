@@ -7,9 +7,8 @@ use Prim.Native.Nat.{ℕ, _*_, _<_, _≤_}
 use native.Mathlib.Omega.{arith}
 use borrow.Author.Tests.{le-leb, lt-leb}
 use lib.ListN.{length, take, drop, replicate}
-use Rattle.rules.specs.Outcome.{ok, Outcome, answer, refused}
+use Rattle.rules.specs.Outcome.{Outcome, answer, refused}
 use Rattle.rules.specs.Form.{Chunk}
-use Rattle.rules.specs.Reading.{read}
 use Rattle.rules.specs.Sheet as R
 use Rattle.rules.specs.Sheet.{readOutcome, sheetOf, sheetOutcome, lineWidth, sheetRoom, trayNumbers, sheetTray}
 use Rattle.words.specs.Parts.{chunksIn}
@@ -20,7 +19,7 @@ use Rattle.sheets.specs.declared.module.Sheet.{Sheet}
 use Rattle.text.specs.Paste.{pasted}
 use Rattle.text.proofs.PasteLaws.{pasted-first}
 use Rattle.sheets.specs.Module.{Rows, rowsOf, sheetIs, Blank, countOf}
-use Rattle.sheets.proofs.TrayLaws.{tray-length, tray-blank, tray-room}
+use Rattle.sheets.proofs.TrayLaws.{tray-length, tray-blank, tray-size}
 use Rattle.sheets.proofs.SheetLaws.{all-lines}
 
 -- the answer and the tray that it leaves
@@ -52,21 +51,13 @@ from-rows cs (answer t) is {order} {numbers} e =
     record { sheet = t; answers = is; in-order = ap (λ (r : Rows). r .order) same; in-rows = ap (λ (r : Rows). r .numbers) same }
 from-rows cs (refused m c p) is e = absurd (let z : _≡_ {A = ℕ} 0 1 = cc in omega arith)
 
--- words that are a module, and room for its lines or not
-module _ (ws : List ℕ) (cs : List Chunk) (reads : read ws ≡ ok cs) (room : ℕ) where
-  too-short : room < lineWidth * length cs → sheetOutcome ws room ≡ refused 13 0 0
-  too-short h = rw (reads, lt-leb (lineWidth * length cs) room h)
-
-  fitting : lineWidth * length cs ≤ room → sheetOutcome ws room ≡ sheetOf cs
-  fitting h = rw (reads, le-leb (lineWidth * length cs) room h)
-
 module _ {ws : List ℕ} {n : ℕ} (words : Readable ws n) where
   pub short-tray : (tray : List ℕ) → length tray < lineWidth * n → Leaves ws tray (refused 13 0 0) tray
-  short-tray tray h = leaves ws tray (refused 13 0 0) (too-short ws (chunksIn ws) (words .reads) (length tray) (omega (arith, words .chunks)))
+  short-tray tray h = leaves ws tray (refused 13 0 0) (rw (words .reads, lt-leb (lineWidth * length (chunksIn ws)) (length tray) (omega (arith, words .chunks))))
 
   -- where there is room, the outcome is the module's sheet
   pub sheet-outcome : (room : ℕ) → lineWidth * n ≤ room → sheetOutcome ws room ≡ sheetOf (chunksIn ws)
-  sheet-outcome room fits = fitting ws (chunksIn ws) (words .reads) room (omega (arith, words .chunks))
+  sheet-outcome room fits = rw (words .reads, le-leb (lineWidth * length (chunksIn ws)) room (omega (arith, words .chunks)))
 
   -- the most numbers, all zeros, begin with its empty lines
   pub zeros-blank : Blank n (replicate sheetRoom 0)
@@ -84,7 +75,7 @@ module _ {ws : List ℕ} {n : ℕ} (words : Readable ws n) where
       kept-count = all-lines (chunksIn ws) (kept .sheet) (kept .answers) ∙ sym (words .chunks)
 
       pub kept-room : lineWidth * n ≤ length numbers
-      kept-room = tray-room (kept .sheet .lines) n numbers kept-count (kept .in-rows)
+      kept-room = omega (arith, kept-count, tray-size (kept .sheet .lines) n numbers (kept .in-rows))
 
     module _ (tray : List ℕ) (fits : lineWidth * n ≤ length tray) where
       pub refused-sheet : s .refuses ≡ true → Leaves ws tray (refused (s .number) (s .chunk) (s .place)) tray

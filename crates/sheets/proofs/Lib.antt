@@ -1,4 +1,3 @@
-pub mod RowLaws
 pub mod TrayLaws
 pub mod TurnLaws
 pub mod SheetLaws

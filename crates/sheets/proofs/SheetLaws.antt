@@ -12,7 +12,7 @@ use Rattle.rules.specs.Order.{Listing, listed, ring, callOrder, chunkAt}
 use Rattle.rules.specs.Sheet as R
 use Rattle.rules.specs.Sheet.{noLine, chunkLine, bytesList, linesIn, sheetOf, ringOutcome}
 use Rattle.rules.proofs.Answers.{from-answer}
-use Rattle.rules.proofs.Members.{In, in-head, in-tail, pigeonhole}
+use Rattle.rules.proofs.Members.{In, in-head, in-tail}
 use Rattle.rules.proofs.CallOrder.{order-sound}
 use Rattle.rules.proofs.SheetLines.{from-listing}
 use Rattle.words.specs.Parts.{chunksIn}
@@ -21,8 +21,8 @@ use Rattle.words.specs.Places.{PlacedAt}
 use Rattle.order.specs.declared.visit.Search.{Search}
 use Rattle.order.specs.Search.{Readable, Shows, Shown}
 use Rattle.order.proofs.VisitLaws.{few-chunks}
-use Rattle.order.proofs.MarkLaws.{told-listed, told-ring}
-use Rattle.order.proofs.CoverLaws.{covers}
+use Rattle.order.proofs.MarkLaws.{told-ring}
+use Rattle.order.proofs.AnswerLaws.{all-chunks}
 use Rattle.sheets.specs.Module.{inOrder, rowsOf, Ordering}
 use Rattle.sheets.proofs.TurnLaws.{whole}
 
@@ -43,33 +43,21 @@ module _ {ws : List ℕ} {n : ℕ} (words : Readable ws n) (s : Search) (shown :
   ring-sheet met = ap rowsOf (sym (sheet-from (ring (s .ring)) (told-ring n s [] (callOrder (chunksIn ws)) met shown .1)))
 
   module _ (none : 256 ≤ s .ring) where
-    all : (d : List ℕ) × Shows s n [] d × (callOrder (chunksIn ws) ≡ listed d)
-    all = told-listed n s [] (callOrder (chunksIn ws)) (few-chunks words) none shown
-
-    -- every chunk is listed once, so the order is the first n numbers
-    front : (length (all .0) ≡ n) × (take n (s .order) ≡ all .0)
-    front =
-        let h = all .1 in
-        let most = pigeonhole n (all .0) (h .once) (h .chunks) in
-        let least = covers n (all .0) (λ k lt. order-sound (chunksIn ws) (all .0) (all .2) .every k (omega (arith, words .chunks))) in
-        let count : s .count ≡ n = omega (arith, h .count) in
-        (omega (arith, h .count), cc (h .order))
+    -- the order is all chunks, the first n numbers
+    all : Shows s n [] (take n (s .order)) × (callOrder (chunksIn ws) ≡ listed (take n (s .order))) × (length (take n (s .order)) ≡ n)
+    all = all-chunks words s shown none
 
     pub lines-sheet : inOrder (take n (s .order)) (whole ws (s .order) n) ≡ sheetOf (chunksIn ws)
     lines-sheet =
-        rw (front .1) (ap (λ (m : ℕ). inOrder (all .0) (linesIn (all .0) (chunksIn ws) (replicate m noLine))) (words .chunks)
-        ∙ sym (sheet-from (listed (all .0)) (all .2)))
+        ap (λ (m : ℕ). inOrder (take n (s .order)) (linesIn (take n (s .order)) (chunksIn ws) (replicate m noLine))) (words .chunks) ∙ sym (sheet-from _ (all .1))
 
     pub ordering : (places : Places) → ((k : ℕ) → k < n → PlacedAt ws places k) → Ordering ws places (s .order) n
     ordering places placed =
         record {
           words = words;
           placed = placed;
-          chunks = λ j lt.
-              let there = member-at (all .0) j (omega (arith, front .0)) in
-              let same : getD (all .0) j 0 ≡ getD (s .order) j 0 = sym (ap (λ (l : List ℕ). getD l j 0) (front .1)) ∙ getD-take n (s .order) j 0 lt in
-              rw same at (all .1 .chunks (getD (all .0) j 0) there);
-          order-room = omega (arith, few-chunks words, all .1 .sized .order);
+          chunks = λ j lt. rw (getD-take n (s .order) j 0 lt) at (all .0 .chunks _ (member-at (take n (s .order)) j (omega (arith, all .2))));
+          order-room = omega (arith, few-chunks words, all .0 .sized .order);
         }
 
 -- a sheet's order lists chunks of the module

@@ -8,17 +8,17 @@ use lib.ListN.{length, length-append}
 use Rattle.rules.specs.Outcome.{refused}
 use Rattle.rules.specs.Text.{decimal, refusedWord, space, newline, outcomeText}
 use Rattle.text.specs.Field.{fieldText}
-use Rattle.text.proofs.DecimalLaws.{decimal-short, decimal-long}
+use Rattle.text.proofs.DecimalLaws.{decimal-length}
 
 pub field-length : (n end : ℕ) → length (fieldText n end) ≡ length (decimal n) + 1
 unfolding fieldText
 field-length n end = rw length-append
 
 pub short-field : (n end : ℕ) → n < 2 ^ 32 → length (fieldText n end) ≤ 11
-short-field n end h = omega (arith, field-length n end, decimal-short n h)
+short-field n end h = omega (arith, field-length n end, decimal-length 9 n (omega arith))
 
 pub long-field : (n end : ℕ) → n < 2 ^ 64 → length (fieldText n end) ≤ 21
-long-field n end h = omega (arith, field-length n end, decimal-long n h)
+long-field n end h = omega (arith, field-length n end, decimal-length 19 n (omega arith))
 
 -- the word and the fields of a refusal
 pub refused-line : (n c p : ℕ)

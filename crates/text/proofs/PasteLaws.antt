@@ -2,12 +2,12 @@
 -- Assumes nothing.
 use mathlib.Core.Path.{_≡_, refl, sym, ap, _∙_}
 use mathlib.Core.List.{List, [], _∷_, _++_, flatten, append-assoc}
-use Prim.Native.Nat.{ℕ, _+_, _≤_, _<_}
+use Prim.Native.Nat.{ℕ, suc, _+_, _≤_, _<_}
 use native.Mathlib.Nat.{add-zero, zero-add, add-assoc}
 use native.Mathlib.Numerals.{add-one}
 use native.Mathlib.Omega.{arith}
 use lib.ListN.{length, getD, set, take, drop, length-append, length-take, length-drop, take-append-drop}
-use lib.Seq.{sets, sets-eq, take-append-le, drop-append-le, take-at, drop-at, drop-drop, take-suc, length-take-le}
+use lib.Seq.{paste-suc, sets, sets-eq, take-at, drop-at, drop-drop, length-take-le}
 use Rattle.text.specs.Paste.{pasted, Put}
 
 pub pasted-none : (at : ℕ) (l : List ℕ) → pasted at [] l ≡ l
@@ -52,13 +52,6 @@ module _ (at : ℕ) (xs l : List ℕ) (fits : at + length xs ≤ length l) where
   unfolding pasted
   pasted-beyond = rw (← append-assoc (take at l) xs) (drop-at (take at l ++ xs) _ _ long)
 
-  -- what stands behind the list is left
-  pub pasted-before : (rest : List ℕ) → pasted at xs (l ++ rest) ≡ pasted at xs l ++ rest
-  unfolding pasted
-  pasted-before rest =
-      let near : at ≤ length l = omega arith in
-      simp (take-append-le at l rest near, drop-append-le (at + length xs) l rest fits, append-assoc)
-
   behind : (n : ℕ) → drop (at + length xs + n) (pasted at xs l) ≡ drop (at + length xs + n) l
   behind n = rw (← drop-drop n (at + length xs) (pasted at xs l), ← drop-drop n (at + length xs) l, pasted-beyond)
 
@@ -70,13 +63,10 @@ module _ (at : ℕ) (xs l : List ℕ) (fits : at + length xs ≤ length l) where
 -- a list that has one more element of xs pasted over it at each turn
 pub pasted-more : (at i : ℕ) (xs l : List ℕ) → at + length xs ≤ length l → i < length xs
     → set (pasted at (take i xs) l) (at + i) (getD xs i 0) ≡ pasted at (take (i + 1) xs) l
+unfolding pasted
 pasted-more at i xs l fits h =
-    let e : length (take i xs) ≡ i = length-take-le i xs (omega arith) in
-    let room : at + length (take i xs) ≤ length l = omega arith in
-    pasted-one (at + i) (getD xs i 0) _ (rw (pasted-length at (take i xs) l room) (omega arith))
-    ∙ ap (λ (k : ℕ). pasted (at + k) (getD xs i 0 ∷ []) (pasted at (take i xs) l)) (sym e)
-    ∙ pasted-twice at (take i xs) l room (getD xs i 0 ∷ [])
-    ∙ rw (add-one i, take-suc xs i 0)
+    let e = length-take-le i xs (omega arith) in
+    rw (add-one i, e, length-take-le (suc i) xs h) (simp append-assoc at (paste-suc l at xs i 0 (omega arith) h))
 
 -- one text behind the other
 pub then : (at : ℕ) (xs ys l : List ℕ) {m n : List ℕ} {p q : ℕ} → at + length xs ≤ length l

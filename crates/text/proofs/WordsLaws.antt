@@ -2,8 +2,9 @@
 -- Assumes nothing.
 use mathlib.Core.Path.{_≡_, refl, sym}
 use mathlib.Core.List.{List, [], _∷_}
-use Prim.Native.Nat.{ℕ, zero, suc, _+_, _*_, _/_, _<_, _≤_}
-use native.Mathlib.Nat.{zero-add, suc-add}
+use Prim.Native.Nat.{ℕ, zero, suc, _+_, _/_, _<_, _≤_}
+use native.Mathlib.Nat.{zero-add, mul-suc}
+use native.Mathlib.Numerals.{towards-suc}
 use native.Mathlib.Omega.{arith}
 use lib.ListN.{length, getD, set, take}
 use lib.Seq.{take-all}
@@ -20,12 +21,6 @@ words-length (a ∷ b ∷ []) = refl
 words-length (a ∷ b ∷ c ∷ []) = refl
 words-length (a ∷ b ∷ c ∷ d ∷ bytes) = omega (arith, words-length bytes)
 
--- the bytes of word i + 1 are those of word i behind the first four
-next : (a b c d : ℕ) (bytes : List ℕ) (i : ℕ) → wordAt (a ∷ b ∷ c ∷ d ∷ bytes) (suc i) ≡ wordAt bytes i
-next a b c d bytes i =
-    let e : 4 * suc i ≡ suc (suc (suc (suc (4 * i)))) = omega arith in
-    simp (e, suc-add)
-
 pub word-at : (bytes : List ℕ) (i : ℕ) → i < length bytes / 4 → getD (wordsOf bytes) i 0 ≡ wordAt bytes i
 unfolding wordsOf
 word-at [] i h = absurd (omega arith)
@@ -33,7 +28,7 @@ word-at (a ∷ []) i h = absurd (omega arith)
 word-at (a ∷ b ∷ []) i h = absurd (omega arith)
 word-at (a ∷ b ∷ c ∷ []) i h = absurd (omega arith)
 word-at (a ∷ b ∷ c ∷ d ∷ bytes) zero h = refl
-word-at (a ∷ b ∷ c ∷ d ∷ bytes) (suc i) h = rw (next a b c d bytes i) (word-at bytes i (omega arith))
+word-at (a ∷ b ∷ c ∷ d ∷ bytes) (suc i) h = simp (mul-suc, towards-suc) (simp towards-suc at (word-at bytes i (omega arith)))
 
 module _ (bytes words : List ℕ) (fits : length bytes / 4 ≤ length words) where
   room : 0 + length (wordsOf bytes) ≤ length words

@@ -7,7 +7,7 @@ use Prim.Native.Nat.{ℕ, _+_, _*_, _≤_, _<_}
 use native.Mathlib.Omega.{arith}
 use borrow.Author.Tests.{leb-true, le-leb, lt-leb, ne-eqb}
 use lib.Dec.{eqb, leb}
-use Rattle.words.proofs.Table.{split}
+use Rattle.words.proofs.Cases.{split}
 use Rattle.rules.specs.Ops.{Group, Figures, word, kind, fieldB, table, figures, between, inGroups, indexFigures, trapFigures, nativeFigures, figuresOf}
 
 -- `figuresOf w` is, by its definition, `figuresBy (kind w) (fieldB w) (fieldA w)`: so a test can compute it at each kind, with b and a open.

@@ -1,3 +1,4 @@
+pub mod Cases
 pub mod Table
 pub mod FigureLaws
 pub mod OpLaws

@@ -1,39 +1,42 @@
 -- What the reader's answer says of the chunks, and a lookup's parts of a chunk: what the crates above cite.
 -- Assumes nothing.
-use mathlib.Core.Path.{_≡_, refl}
-use mathlib.Core.Bool.{Bool, true, false}
+use mathlib.Core.Path.{_≡_, refl, sym}
+use mathlib.Core.Bool.{true}
 use mathlib.Core.List.{List}
 use Prim.Native.Nat.{ℕ, _<_, _≤_}
 use native.Mathlib.Omega.{arith}
 use borrow.Author.Tests.{lt-ltb, le-ltb, ltb-true}
 use lib.Dec.{ltb}
 use lib.ListN.{length}
-use Rattle.rules.specs.Outcome.{Result, ok, no, Outcome, answer, refused, followedBy, inChunk, demand}
+use Rattle.rules.specs.Outcome.{ok, Outcome, answer, refused, followedBy, inChunk, demand}
 use Rattle.rules.specs.Form.{Chunk, ChunkFits}
 use Rattle.rules.specs.Reading.{read}
 use Rattle.rules.specs.Order.{chunkAt}
 use Rattle.rules.specs.Sheet.{readModule, readOutcome, chunkOutcome}
+use Rattle.rules.proofs.Answers.{from-answer, from-chunk}
 use Rattle.rules.proofs.ReadingAgrees.{read-words}
 use Rattle.words.specs.declared.parts.Parts.{Parts}
-use Rattle.words.specs.Parts.{partsAt, headAt, chunksRead, chunksIn, PartsOf}
+use Rattle.words.specs.Parts.{partsAt, headAt, chunksIn, PartsOf}
 use Rattle.words.specs.Lookup.{partsOutcome}
+use Rattle.words.proofs.Cases.{decide}
 use Rattle.words.proofs.PartLaws.{chunk-parts, chunk-fits}
 
 -- an accepted module has its chunks, as many as the reader says
 pub accepted : (ws : List ℕ) (n : ℕ) → answer n ≡ readOutcome ws → (read ws ≡ ok (chunksIn ws)) × (length (chunksIn ws) ≡ n)
-accepted ws n e = go (read ws) e
-  where
-    go : (r : Result (List Chunk)) → answer n ≡ followedBy (inChunk 0 r) (λ cs. answer (length cs)) → (r ≡ ok (chunksRead r)) × (length (chunksRead r) ≡ n)
-    go (ok cs) f = (refl, cc)
-    go (no m p) f = absurd (let z : _≡_ {A = ℕ} 0 1 = cc in omega arith)
+accepted ws n e =
+    let a = from-answer (readModule ws) _ (sym e) in
+    let r = from-chunk 0 (read ws) (a .1) in
+    rw r (refl, cc (a .2))
+
+-- a refusal stays where what comes behind the first part refuses alike
+refused-alike : {A B C : Type 0} (o : Outcome A) (f : A → Outcome B) (g : A → Outcome C) (n k q : ℕ) → ((a : A) → refused n k q ≡ f a → refused n k q ≡ g a)
+    → refused n k q ≡ followedBy o f → refused n k q ≡ followedBy o g
+refused-alike (answer a) f g n k q h e = h a e
+refused-alike (refused m c p) f g n k q h e = cc
 
 -- a refusal of the reader refuses whatever comes behind it
 pub refused-before : {A : Type 0} (ws : List ℕ) (n p : ℕ) (next : List Chunk → Outcome A) → refused n 0 p ≡ readOutcome ws → refused n 0 p ≡ followedBy (readModule ws) next
-refused-before {A} ws n p next e = go (read ws) e
-  where
-    go : (r : Result (List Chunk)) → refused n 0 p ≡ followedBy (inChunk 0 r) (λ cs. answer (length cs)) → refused n 0 p ≡ followedBy {B = A} (inChunk 0 r) next
-    go (ok cs) f = absurd (let z : _≡_ {A = ℕ} 0 1 = cc in omega arith)
-    go (no m q) f = let a : n ≡ m = cc in let b : p ≡ q = cc in rw (a, b)
+refused-before ws n p next e = refused-alike (readModule ws) _ next n 0 p (λ cs f. absurd (let z : _≡_ {A = ℕ} 0 1 = cc in omega arith)) e
 
 module _ (ws : List ℕ) (cs : List Chunk) (reads : read ws ≡ ok cs) (c : ℕ) where
   pub no-chunk : length cs ≤ c → refused 12 c 0 ≡ partsOutcome ws c
@@ -51,24 +54,21 @@ pub record Chunked (ws : List ℕ) (c : ℕ) (p : Parts) : Type 0 where
   pub short : length ws ≤ 16384
 
 pub lookup-refused : (ws : List ℕ) (c n k q : ℕ) → refused n k q ≡ partsOutcome ws c → refused n k q ≡ chunkOutcome ws c
-lookup-refused ws c n k q e = go (read ws) e
-  where
-    test : (cs : List Chunk) (b : Bool) → refused n k q ≡ inChunk c (demand b 12 0 (partsAt ws (headAt cs c))) → refused n k q ≡ inChunk c (demand b 12 0 (chunkAt cs c))
-    test cs true f = absurd (let z : _≡_ {A = ℕ} 0 1 = cc in omega arith)
-    test cs false f = let a : n ≡ 12 = cc in let b : k ≡ c = cc in let d : q ≡ 0 = cc in rw (a, b, d)
-
-    go : (r : Result (List Chunk)) → refused n k q ≡ followedBy (inChunk 0 r) (λ cs. inChunk c (demand (ltb c (length cs)) 12 0 (partsAt ws (headAt cs c))))
-        → refused n k q ≡ followedBy (inChunk 0 r) (λ cs. inChunk c (demand (ltb c (length cs)) 12 0 (chunkAt cs c)))
-    go (ok cs) f = test cs (ltb c (length cs)) f
-    go (no m p) f = let a : n ≡ m = cc in let b : k ≡ 0 = cc in let d : q ≡ p = cc in rw (a, b, d)
+lookup-refused ws c n k q e =
+    refused-alike (readModule ws) _ _ n k q
+    (λ cs f. decide (ltb c (length cs)) (λ t. absurd (let g = rw t at f in let z : _≡_ {A = ℕ} 0 1 = cc in omega arith)) (λ t. let g = rw t at f in rw t cc)) e
 
 pub lookup-found : (ws : List ℕ) (c : ℕ) (p : Parts) → answer p ≡ partsOutcome ws c → Chunked ws c p
-lookup-found ws c p e = go (read ws) refl e
+lookup-found ws c p e =
+    let a = from-answer (readModule ws) _ (sym e) in
+    decide (ltb c (length (a .0))) (go (a .0) (from-chunk 0 (read ws) (a .1)) (a .2))
+    (λ t. absurd (let f = rw t at (a .2) in let z : _≡_ {A = ℕ} 0 1 = cc in omega arith))
   where
-    test : (cs : List Chunk) (b : Bool) → read ws ≡ ok cs → ltb c (length cs) ≡ b → answer p ≡ inChunk c (demand b 12 0 (partsAt ws (headAt cs c))) → Chunked ws c p
-    test cs true r t f =
+    go : (cs : List Chunk) → read ws ≡ ok cs → inChunk c (demand (ltb c (length cs)) 12 0 (partsAt ws (headAt cs c))) ≡ answer p → ltb c (length cs) ≡ true
+        → Chunked ws c p
+    go cs r f t =
         let lt = ltb-true c (length cs) t in
-        let same : p ≡ partsAt ws (headAt cs c) = cc in
+        let same : p ≡ partsAt ws (headAt cs c) = cc (rw t at f) in
         record {
           chunk = chunkAt cs c;
           outcome = rw (r, t);
@@ -76,8 +76,3 @@ lookup-found ws c p e = go (read ws) refl e
           fits = chunk-fits ws cs r c lt;
           short = read-words ws cs r .0;
         }
-    test cs false r t f = absurd (let z : _≡_ {A = ℕ} 0 1 = cc in omega arith)
-
-    go : (r : Result (List Chunk)) → read ws ≡ r → answer p ≡ followedBy (inChunk 0 r) (λ cs. inChunk c (demand (ltb c (length cs)) 12 0 (partsAt ws (headAt cs c)))) → Chunked ws c p
-    go (ok cs) r f = test cs (ltb c (length cs)) r refl f
-    go (no m q) r f = absurd (let z : _≡_ {A = ℕ} 0 1 = cc in omega arith)

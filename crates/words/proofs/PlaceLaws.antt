@@ -1,20 +1,17 @@
 -- One chunk's places more, and that they fit 16 bits.
 -- Assumes nothing.
-use mathlib.Core.Path.{_≡_, refl, ap, _∙_}
-use mathlib.Core.Bool.{Bool, true, false}
+use mathlib.Core.Path.{_≡_, ap, _∙_}
 use mathlib.Core.List.{List}
 use Prim.Native.Nat.{ℕ, _+_, _<_}
 use native.Mathlib.Omega.{arith}
-use borrow.Author.Tests.{eqb-true, eqb-false}
-use lib.Dec.{eqb}
 use lib.ListN.{length, set, length-set}
-use lib.Seq.{getD-set-same, getD-set-other}
 use Rattle.rules.specs.Outcome.{ok}
 use Rattle.rules.specs.Reading.{read}
 use Rattle.rules.proofs.ReadingAgrees.{read-words}
 use Rattle.words.specs.declared.parts.Parts.{Parts}
 use Rattle.words.specs.Parts.{partsAt, chunksIn, headAt}
 use Rattle.words.specs.Places.{PlacesAt}
+use Rattle.words.proofs.Cases.{set-shows}
 use Rattle.words.proofs.PartLaws.{chunk-head, chunk-parts}
 
 -- the arrays have 256 places
@@ -37,34 +34,21 @@ pub places-more : (ws : List ℕ) {heads ops extras ends : List ℕ} → Sized h
     → at ≡ headAt (chunksIn ws) i → p ≡ partsAt ws at → ((k : ℕ) → k < i → PlacesAt ws heads ops extras ends k)
     → Sized (set heads i at) (set ops i (p .ops)) (set extras i (p .extras)) (set ends i (p .end))
     × ((k : ℕ) → k < i + 1 → PlacesAt ws (set heads i at) (set ops i (p .ops)) (set extras i (p .extras)) (set ends i (p .end)) k)
-places-more ws {heads} {ops} {extras} {ends} size i at p lt is-head is-parts before = (
-  record {
-    heads-size = length-set heads i at ∙ size .heads-size;
-    ops-size = length-set ops i (p .ops) ∙ size .ops-size;
-    extras-size = length-set extras i (p .extras) ∙ size .extras-size;
-    ends-size = length-set ends i (p .end) ∙ size .ends-size;
-  },
-  λ k h. place k h (eqb k i) refl,
-)
-  where
-    here : p ≡ partsAt ws (headAt (chunksIn ws) i)
-    here = rw (← is-head) is-parts
-
-    place : (k : ℕ) → k < i + 1 → (b : Bool) → eqb k i ≡ b → PlacesAt ws (set heads i at) (set ops i (p .ops)) (set extras i (p .extras)) (set ends i (p .end)) k
-    place k h true q =
-        let same = eqb-true k i q in
-        record {
-          head = rw same (getD-set-same heads i at 0 (omega (arith, size .heads-size)) ∙ is-head);
-          ops-at = rw same (getD-set-same ops i (p .ops) 0 (omega (arith, size .ops-size)) ∙ ap (λ (x : Parts). x .ops) here);
-          extras-at = rw same (getD-set-same extras i (p .extras) 0 (omega (arith, size .extras-size)) ∙ ap (λ (x : Parts). x .extras) here);
-          end-at = rw same (getD-set-same ends i (p .end) 0 (omega (arith, size .ends-size)) ∙ ap (λ (x : Parts). x .end) here);
-        }
-    place k h false q =
-        let other = eqb-false k i q in
-        let b = before k (omega arith) in
-        record {
-          head = getD-set-other heads i k at 0 other ∙ b .head;
-          ops-at = getD-set-other ops i k (p .ops) 0 other ∙ b .ops-at;
-          extras-at = getD-set-other extras i k (p .extras) 0 other ∙ b .extras-at;
-          end-at = getD-set-other ends i k (p .end) 0 other ∙ b .end-at;
-        }
+places-more ws {heads} {ops} {extras} {ends} size i at p lt is-head is-parts before =
+    let parts : ℕ → Parts = λ j. partsAt ws (headAt (chunksIn ws) j) in
+    let here : p ≡ parts i = rw (← is-head) is-parts in (
+      record {
+        heads-size = length-set heads i at ∙ size .heads-size;
+        ops-size = length-set ops i (p .ops) ∙ size .ops-size;
+        extras-size = length-set extras i (p .extras) ∙ size .extras-size;
+        ends-size = length-set ends i (p .end) ∙ size .ends-size;
+      },
+      λ k h.
+          let old : (k ≡ i → ⊥) → PlacesAt ws heads ops extras ends k = λ o. before k (omega arith) in
+          record {
+            head = set-shows (headAt (chunksIn ws)) heads i _ 0 (omega (arith, size .heads-size)) is-head k (λ o. old o .head);
+            ops-at = set-shows (λ j. parts j .ops) ops i _ 0 (omega (arith, size .ops-size)) (ap (λ (x : Parts). x .ops) here) k (λ o. old o .ops-at);
+            extras-at = set-shows (λ j. parts j .extras) extras i _ 0 (omega (arith, size .extras-size)) (ap (λ (x : Parts). x .extras) here) k (λ o. old o .extras-at);
+            end-at = set-shows (λ j. parts j .end) ends i _ 0 (omega (arith, size .ends-size)) (ap (λ (x : Parts). x .end) here) k (λ o. old o .end-at);
+          },
+    )

@@ -17,6 +17,7 @@ use Rattle.rules.specs.Reading.{isHead, isChunk, isConstant, isExtra, ofConstan
 use Rattle.rules.specs.Sheet.{readOutcome}
 use Rattle.rules.proofs.ReadingAgrees.{read-sound, read-within, read-over}
 use Rattle.words.specs.Reader.{counter}
+use Rattle.words.proofs.Cases.{decide}
 
 -- a step that counts down
 pub some-chunk : (n w : ℕ) → (n ≡ 0 → ⊥) → chunkNext n w ≡ onlyIf (isChunk w) (inConstants (n - 1))
@@ -85,11 +86,9 @@ module _ (ws : List ℕ) (i : ℕ) (s : Stage) where
 
 -- the same behind an op, a whole extra and a whole constant
 first-word : (n w : ℕ) → (ofConstants w && isConstant (kind w) 0 w) ≡ true → step (inConstants n) w ≡ goes (inConstant (kind w) 1 n)
-first-word n w e = go (eqb (kind w) 202) refl
-  where
-    go : (b : Bool) → eqb (kind w) 202 ≡ b → step (inConstants n) w ≡ goes (inConstant (kind w) 1 n)
-    go true f = let k = eqb-true (kind w) 202 f in rw k (simp (rw k at e))
-    go false f = let k = eqb-true (kind w) 203 (and-eq-true-iff _ _ .0 (simp f at e) .0) in rw k (simp (rw k at e))
+first-word n w e =
+    decide (eqb (kind w) 202) (λ f. let k = eqb-true (kind w) 202 f in rw k (simp (rw k at e)))
+    (λ f. let k = eqb-true (kind w) 203 (and-eq-true-iff _ _ .0 (simp f at e) .0) in rw k (simp (rw k at e)))
 
 module _ (ws : List ℕ) (i : ℕ) (n : ℕ) where
   pub past-op : (k m : ℕ) → m ≡ suc k → i < length ws → isOp (getD ws i 0) ≡ true

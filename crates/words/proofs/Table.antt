@@ -1,23 +1,16 @@
 -- What a test tells of every number below a bound: it is computed once, over all of them, and then holds of each. Assumes nothing.
-use mathlib.Core.Path.{_≡_, refl}
+use mathlib.Core.Path.{_≡_}
 use mathlib.Core.Bool.{Bool, true, false, _&&_, _||_, and-eq-true-iff}
 use Prim.Native.Nat.{ℕ, zero, suc, _<_}
 use native.Mathlib.Omega.{arith}
-use borrow.Author.Tests.{eqb-true, eqb-false}
+use borrow.Author.Tests.{eqb-true}
 use lib.Dec.{eqb}
+pub use Rattle.words.proofs.Cases.{split}
 
 -- the test holds of each number below n
 abbrev every : (ℕ → Bool) → ℕ → Bool
 every f zero = true
 every f (suc n) = f n && every f n
-
--- a number is another, or not
-pub split : (k n : ℕ) {P : Type 0} → (k ≡ n → P) → ((k ≡ n → ⊥) → P) → P
-split k n {P} f g = go (eqb k n) refl
-  where
-    go : (b : Bool) → eqb k n ≡ b → P
-    go true e = f (eqb-true k n e)
-    go false e = g (eqb-false k n e)
 
 at : (f : ℕ → Bool) (n : ℕ) → every f n ≡ true → (k : ℕ) → k < n → f k ≡ true
 at f zero t k h = absurd (omega arith)

@@ -16,35 +16,33 @@ use Rattle.rules.specs.Ops.{kind, fieldA}
 use Rattle.rules.specs.Form.{integer, other}
 use Rattle.rules.specs.Reading.{signedOf, constantOf, constantsOf, extrasOf}
 
--- a constant is read from its four words
-constant-read : (ws : List ℕ) (i : ℕ) → i < length ws / 4
-    → getD (constantsOf ws) i other ≡ constantOf (getD ws (4 * i) 0) (getD ws (4 * i + 1) 0) (getD ws (4 * i + 2) 0) (getD ws (4 * i + 3) 0)
+-- a constant is read from its four words, and there is none behind them
+constant-cases : (ws : List ℕ) (i : ℕ)
+    → (i < length ws / 4
+    → getD (constantsOf ws) i other ≡ constantOf (getD ws (4 * i) 0) (getD ws (4 * i + 1) 0) (getD ws (4 * i + 2) 0) (getD ws (4 * i + 3) 0))
+    × (length ws / 4 ≤ i → getD (constantsOf ws) i other ≡ other)
 unfolding constantsOf
-constant-read [] i h = absurd (omega arith)
-constant-read (s ∷ []) i h = absurd (omega arith)
-constant-read (s ∷ t ∷ []) i h = absurd (omega arith)
-constant-read (s ∷ t ∷ u ∷ []) i h = absurd (omega arith)
-constant-read (s ∷ t ∷ u ∷ v ∷ ws) zero h = refl
-constant-read (s ∷ t ∷ u ∷ v ∷ ws) (suc i) h = simp (mul-suc, towards-suc) (simp towards-suc at (constant-read ws i (omega arith)))
+constant-cases [] i = (λ h. absurd (omega arith), λ h. refl)
+constant-cases (s ∷ []) i = (λ h. absurd (omega arith), λ h. refl)
+constant-cases (s ∷ t ∷ []) i = (λ h. absurd (omega arith), λ h. refl)
+constant-cases (s ∷ t ∷ u ∷ []) i = (λ h. absurd (omega arith), λ h. refl)
+constant-cases (s ∷ t ∷ u ∷ v ∷ ws) zero = (λ h. refl, λ h. absurd (omega arith))
+constant-cases (s ∷ t ∷ u ∷ v ∷ ws) (suc i) =
+    let r = constant-cases ws i in
+    (λ h. simp (mul-suc, towards-suc) (simp towards-suc at (r .0 (omega arith))), λ h. r .1 (omega arith))
 
 pub constant-none : (ws : List ℕ) (i : ℕ) → length ws / 4 ≤ i → getD (constantsOf ws) i other ≡ other
-unfolding constantsOf
-constant-none [] i h = refl
-constant-none (s ∷ []) i h = refl
-constant-none (s ∷ t ∷ []) i h = refl
-constant-none (s ∷ t ∷ u ∷ []) i h = refl
-constant-none (s ∷ t ∷ u ∷ v ∷ ws) zero h = absurd (omega arith)
-constant-none (s ∷ t ∷ u ∷ v ∷ ws) (suc i) h = constant-none ws i (omega arith)
+constant-none ws i = constant-cases ws i .1
 
 -- by what its first word says
 module _ (ws : List ℕ) (i : ℕ) (h : i < length ws / 4) where
   pub constant-other : (kind (getD ws (4 * i) 0) ≡ 202 → ⊥) → getD (constantsOf ws) i other ≡ other
-  constant-other g = rw (constant-read ws i h, ne-eqb _ 202 g)
+  constant-other g = rw (constant-cases ws i .0 h, ne-eqb _ 202 g)
 
   pub constant-integer : kind (getD ws (4 * i) 0) ≡ 202 → {a b c d : ℕ} {z : ℤ}
       → a ≡ fieldA (getD ws (4 * i) 0) → b ≡ fieldA (getD ws (4 * i + 1) 0) → c ≡ fieldA (getD ws (4 * i + 2) 0) → d ≡ fieldA (getD ws (4 * i + 3) 0)
       → z ≡ signedOf (a + 65536 * (b + 65536 * (c + 65536 * d))) → getD (constantsOf ws) i other ≡ integer z
-  constant-integer k ea eb ec ed ez = rw (constant-read ws i h, eq-eqb _ 202 k, ez, ea, eb, ec, ed)
+  constant-integer k ea eb ec ed ez = rw (constant-cases ws i .0 h, eq-eqb _ 202 k, ez, ea, eb, ec, ed)
 
 -- an extra from its two
 pub extra-read : (ws : List ℕ) (i : ℕ) → i < length ws / 2

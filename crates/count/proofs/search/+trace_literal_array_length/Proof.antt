@@ -14,7 +14,7 @@ use lib.ListN.{getD}
 use Rattle.rules.specs.Ops.{kind, fieldB}
 use Rattle.rules.specs.Outcome.{found}
 use Rattle.words.specs.Found.{foundOf}
-use Rattle.count.proofs.SearchLaws.{SetAt, set-at, field-value, array-none, array-first, array-at}
+use Rattle.count.proofs.SearchLaws.{SetAt, set-at, field-value, array-told, array-at}
 use Rattle.count.proofs.search.trace_literal_array_length.Reads as reads
 use Rattle.count.proofs.search.trace_literal_array_length.Kinds as kinds
 use Rattle.count.proofs.search.+trace_literal_array_length.Lts-trace_literal_array_length as lts
@@ -55,12 +55,12 @@ enum-told : need lts.Need-enum-told
 enum-told t c = search needs
 
 returns : need lts.Need-returns
-returns t c = sym (array-none _ _ _ (sym (c .before .before .last-set .ensures) ∙ ap foundOf (c .enum-told .given .1)))
+returns t c = sym (array-told _ _ _ (sym (c .before .before .last-set .ensures) ∙ ap foundOf (c .enum-told .given .1)))
 
 returns-2 : need lts.Need-returns-2
 returns-2 t c =
     let p = c .before .before in
-    sym (array-first _ _ _ (sym (p .before .before .last-set .ensures) ∙ ap foundOf (p .found .given .1) ∙ ap found (c .if1 .taken)))
+    sym (array-told _ _ _ (sym (p .before .before .last-set .ensures) ∙ ap foundOf (p .found .given .1) ∙ ap found (c .if1 .taken)))
 
 mul-w : need lts.Need-mul-w
 mul-w t c = omega (arith, here t c)

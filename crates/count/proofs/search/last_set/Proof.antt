@@ -6,7 +6,7 @@ use Prim.Native.Nat.{_≤_}
 use native.Mathlib.Omega.{arith}
 use borrow.Author.Needs.{needs}
 use Rattle.rules.specs.Count.{lastSet}
-use Rattle.count.proofs.SearchLaws.{last-none, last-hit, last-skip}
+use Rattle.count.proofs.SearchLaws.{last-none, last-step}
 use Rattle.count.proofs.search.last_set.Statement.{statement}
 use Rattle.count.proofs.search.last_set.Tie as tie
 
@@ -29,7 +29,7 @@ loop-again : tie.Need-loop-again Inv-loop μ-loop
 loop-again c =
     let h = c .before .before .before .before in
     let b = past (h .before) in
-    (omega arith, b .1 ∙ last-skip _ _ _ (h .if2 .left) (omega arith) (sym (c .before .is-of .ensures) ∙ c .if3 .left))
+    (omega arith, b .1 ∙ last-step _ _ _ (h .if2 .left) (omega arith) (sym (c .before .is-of .ensures) ∙ c .if3 .left))
 
 returns : tie.Need-returns Inv-loop μ-loop
 returns c = sym (past (c .before) .1 ∙ last-none _ _ _ (c .if2 .taken))
@@ -38,7 +38,7 @@ returns-2 : tie.Need-returns-2 Inv-loop μ-loop
 returns-2 c =
     let h = c .before .before .before .before in
     let b = past (h .before) in
-    sym (b .1 ∙ last-hit _ _ _ (h .if2 .left) (omega arith) (sym (c .before .is-of .ensures) ∙ c .if3 .taken))
+    sym (b .1 ∙ last-step _ _ _ (h .if2 .left) (omega arith) (sym (c .before .is-of .ensures) ∙ c .if3 .taken))
 
 -- the op that is looked at stands in the list
 mul-w : tie.Need-mul-w Inv-loop μ-loop

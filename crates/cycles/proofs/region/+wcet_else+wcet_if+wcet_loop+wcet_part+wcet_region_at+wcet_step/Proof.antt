@@ -9,7 +9,7 @@ use Rattle.rows.proofs.FitLaws.{if-within, if-arm, else-within, then-arm, else-
 use Rattle.cycles.specs.Answers.{breaksOf, chunkOf}
 use Rattle.cycles.specs.Steps.{StepMeans}
 use Rattle.cycles.proofs.CycleLaws.{part-some}
-use Rattle.cycles.proofs.StepLaws.{Rest, rest-fits, rest-end, rest-forward, rest-goes, rest-ends, rest-refused, if-refused, if-open, if-goes}
+use Rattle.cycles.proofs.StepLaws.{Rest, rest-fits, rest-end, rest-forward, rest-goes, rest-stops, if-refused, if-open, if-goes}
 use Rattle.cycles.proofs.StepLaws.{else-refused, else-refused-second, else-joins, loop-refused, loop-once, loop-passes}
 use Rattle.cycles.proofs.StepLaws.{Charged, step-open, step-charged, step-if, step-else, step-loop, step-ends, step-break, step-break-if, step-plain}
 use borrow.Fn.Kinds.{In, Out}
@@ -304,13 +304,13 @@ wcet-region-at-returns : wcet-region-at-need wcet-region-at-lts.Need-returns
 wcet-region-at-returns t c =
     let s = c .before in
     let w = s .before .before in
-    rest-ends (w .before .before .loop .inv) (w .wcet-step .result) (wcet-region-at-means t w) (s .step2 .given .1)
+    rw (s .step2 .given .1) at (rest-stops (w .before .before .loop .inv) (w .wcet-step .result) (wcet-region-at-means t w))
 
 wcet-region-at-returns-2 : wcet-region-at-need wcet-region-at-lts.Need-returns-2
 wcet-region-at-returns-2 t c =
     let s = c .before in
     let w = s .before .before in
-    rest-refused (w .before .before .loop .inv) (w .wcet-step .result) (wcet-region-at-means t w) (s .step3 .given .1)
+    rw (s .step3 .given .1) at (rest-stops (w .before .before .loop .inv) (w .wcet-step .result) (wcet-region-at-means t w))
 
 wcet-region-at-returns-3 : wcet-region-at-need wcet-region-at-lts.Need-returns-3
 wcet-region-at-returns-3 t c = rest-end (c .before .loop .inv) (c .loop-test .left)

@@ -1,6 +1,6 @@
 -- `chunk_line` answers a chunk's line, or the first of refusals 3 to 9 and 11.
 -- Assumes nothing.
-use mathlib.Core.Path.{_≡_, sym, ap, _∙_}
+use mathlib.Core.Path.{_≡_, refl, sym, ap, _∙_}
 use borrow.Author.Needs.{needs}
 use Rattle.rules.specs.Outcome.{ok}
 use Rattle.rows.specs.Answers.{rangeIs, rowResult, rangeRow}
@@ -8,7 +8,7 @@ use Rattle.rows.proofs.PartRows.{ops-short, row-there}
 use Rattle.cycles.specs.Answers.{walkResult}
 use Rattle.stack.specs.Answers.{stackResult}
 use Rattle.stack.proofs.EntryLaws.{range-fits}
-use Rattle.lines.proofs.LineLaws.{row-told, walk-told, stack-told, line-told}
+use Rattle.lines.proofs.LineLaws.{row-told, line-told}
 use Rattle.lines.proofs.line.chunk_line.Statement.{statement}
 use Rattle.lines.proofs.line.chunk_line.Tie as tie
 
@@ -39,9 +39,9 @@ returns-2 c k parts =
     let e = w .before in
     let m = e .before .before .before .before .before in
     let o = m .before in
-    walk-told (o .before .before .before .pre) (o .ops-of .ensures) (o .before .before .before .args .callees .now) k parts
-    (m .constants-of .ensures) (e .extras-of .ensures) _ (row-is (e .before)) _ _
-    (sym (ap walkResult (c .before .walk2 .given .1)) ∙ w .wcet-region .ensures)
+    line-told (o .before .before .before .pre) (o .ops-of .ensures) (o .before .before .before .args .callees .now) k parts
+    (m .constants-of .ensures) (e .extras-of .ensures) _ (row-is (e .before))
+    (sym (ap walkResult (c .before .walk2 .given .1)) ∙ w .wcet-region .ensures) refl
 
 compute-chunk-wcmu-requires : tie.Need-compute-chunk-wcmu-requires
 compute-chunk-wcmu-requires c κs =
@@ -59,8 +59,8 @@ returns-3 c k parts =
     let m = e .before .before .before .before .before in
     let o = m .before in
     line-told (o .before .before .before .pre) (o .ops-of .ensures) (o .before .before .before .args .callees .now) k parts
-    (m .constants-of .ensures) (e .extras-of .ensures) _ (row-is (e .before)) _
-    (sym (ap walkResult (t .before .walk .given .1)) ∙ w .wcet-region .ensures) _
+    (m .constants-of .ensures) (e .extras-of .ensures) _ (row-is (e .before))
+    (sym (ap walkResult (t .before .walk .given .1)) ∙ w .wcet-region .ensures)
     (sym (ap stackResult (c .before .stack .given .1)) ∙ z .compute-chunk-wcmu .ensures)
 
 returns-4 : tie.Need-returns-4
@@ -71,9 +71,9 @@ returns-4 c k parts =
     let e = w .before in
     let m = e .before .before .before .before .before in
     let o = m .before in
-    stack-told (o .before .before .before .pre) (o .ops-of .ensures) (o .before .before .before .args .callees .now) k parts
-    (m .constants-of .ensures) (e .extras-of .ensures) _ (row-is (e .before)) _
-    (sym (ap walkResult (t .before .walk .given .1)) ∙ w .wcet-region .ensures) _ _
+    line-told (o .before .before .before .pre) (o .ops-of .ensures) (o .before .before .before .args .callees .now) k parts
+    (m .constants-of .ensures) (e .extras-of .ensures) _ (row-is (e .before))
+    (sym (ap walkResult (t .before .walk .given .1)) ∙ w .wcet-region .ensures)
     (sym (ap stackResult (c .before .stack2 .given .1)) ∙ z .compute-chunk-wcmu .ensures)
 
 pub chunk-line-spec : {M : Type 1} → statement M

@@ -5,7 +5,7 @@ use mathlib.Core.Path.{_≡_}
 use native.Mathlib.Omega.{arith}
 use borrow.Author.Needs.{needs}
 use lib.ListN.{length, length-set}
-use Rattle.order.proofs.TrayLaws.{filled, filled-more}
+use Rattle.order.proofs.AnswerLaws.{filled, filled-more}
 use Rattle.order.proofs.entry.fill_tray.Statement.{statement}
 use Rattle.order.proofs.entry.fill_tray.Tie as tie
 

@@ -74,7 +74,7 @@ topo-visit-element-copy-out-if2 t c = small t (c .before .before .before .before
 topo-visit-returns : topo-visit-need topo-visit-lts.Need-returns
 topo-visit-returns t c =
     let p = c .before .before .before .before .pre .1 in
-    ⊎-elim (λ w. visited-none p _ (w .taken)) (λ w. visited-open p _ (w .2 .taken)) (c .if1 .came)
+    ⊎-elim (λ w. visited-none p _ (w .taken)) (λ w. visited-open p _ (w .0 .left) (w .2 .taken)) (c .if1 .came)
 
 topo-visit-element-copy-out-if3 : topo-visit-need topo-visit-lts.Need-element-copy-out-if3
 topo-visit-element-copy-out-if3 t c = small t (c .before .before .before .before .before .before)

@@ -14,7 +14,7 @@ use Rattle.order.proofs.VisitLaws.{few-chunks}
 use Rattle.lines.specs.Line.{lineResult}
 use native.Mathlib.Omega.{arith}
 use Rattle.sheets.specs.Module.{inOrder, rowsOf}
-use Rattle.sheets.proofs.TrayLaws.{tray-room}
+use Rattle.sheets.proofs.TrayLaws.{tray-size}
 use Rattle.sheets.proofs.TurnLaws.{Lined, lined-begins, lined-ends, lined-more, lined-refuses, turn-head, turn-parts, turn-fits}
 use Rattle.sheets.proofs.module.sheet_lines.Statement.{statement}
 use Rattle.sheets.proofs.module.sheet_lines.Tie as tie
@@ -124,7 +124,7 @@ put-row-requires : tie.Need-put-row-requires Inv-loop μ-loop
 put-row-requires c κs =
     let i = storing c in
     let l = i .before .loop .inv .1 in
-    omega (arith, below i, tray-room (l .lines) (entry i .args .n) (i .before .loop .numbers) (l .count) (l .rows))
+    omega (arith, below i, l .count, tray-size (l .lines) (entry i .args .n) (i .before .loop .numbers) (l .rows))
 
 mul-bytes : tie.Need-mul-bytes Inv-loop μ-loop
 mul-bytes c = omega (arith, under (storing (c .before .before .before)))

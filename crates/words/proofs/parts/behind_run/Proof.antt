@@ -7,7 +7,7 @@ use native.Mathlib.Omega.{arith}
 use borrow.Author.Tests.{ltb-true, ltb-false}
 use lib.ListN.{length, drop}
 use Rattle.words.specs.Parts.{runOf}
-use Rattle.words.proofs.RunLaws.{run-more, run-below, run-above, run-end}
+use Rattle.words.proofs.RunLaws.{run-more, run-out, run-end}
 use Rattle.words.proofs.parts.behind_run.Statement.{statement}
 use Rattle.words.proofs.parts.behind_run.Tie as tie
 
@@ -26,8 +26,8 @@ returns c =
     let i = l .before .loop .i in
     let h : i < length (a .words .now) = l .loop-test .taken in
     ⊎-elim
-    (λ w. omega (arith, run-below (a .low) (a .high) (a .words .now) i h (w .taken)))
-    (λ w. omega (arith, run-above (a .low) (a .high) (a .words .now) i h (w .0 .left) (ltb-true _ _ (w .1 .taken))))
+    (λ w. omega (arith, run-out (a .low) (a .high) (a .words .now) i h (λ l m. omega (arith, w .taken))))
+    (λ w. omega (arith, run-out (a .low) (a .high) (a .words .now) i h (λ l m. omega (arith, ltb-true))))
     (c .if1 .came)
 
 loop-again : tie.Need-loop-again Inv-loop μ-loop
