@@ -1,3 +1,4 @@
+pub mod RowLaws
 pub mod TrayLaws
 pub mod TurnLaws
 pub mod SheetLaws

@@ -19,17 +19,17 @@ use Rattle.words.specs.Places.{PlacedAt}
 use Rattle.words.proofs.PartLaws.{chunk-fits, at-within, chunk-parts}
 use Rattle.text.specs.Paste.{pasted}
 use Rattle.sheets.specs.Module.{inOrder, rowsOf, Blank, Ordering}
+use Rattle.sheets.proofs.RowLaws.{taken-alike}
 use Rattle.sheets.proofs.TrayLaws.{tray-stored}
 
 -- what all turns come to
 abbrev pub whole : List ℕ → List ℕ → ℕ → Outcome (List R.Line)
 whole ws order n = linesIn (take n order) (chunksIn ws) (replicate n noLine)
 
--- the stack bytes of empty lines, and of lines of which one is set
-bytes-blank : (n m : ℕ) → n ≤ m → take n (replicate m 0) ≡ bytesList (replicate n noLine)
-bytes-blank zero m h = refl
-bytes-blank (suc n) zero h = absurd (omega arith)
-bytes-blank (suc n) (suc m) h = ap (λ (bs : List ℕ). 0 ∷ bs) (bytes-blank n m (omega arith))
+-- the stack bytes of lines that are alike, and of lines of which one is set
+bytes-alike : (n : ℕ) (l : R.Line) → bytesList (replicate n l) ≡ replicate n (l .bytes)
+bytes-alike zero l = refl
+bytes-alike (suc n) l = ap (λ (bs : List ℕ). l .bytes ∷ bs) (bytes-alike n l)
 
 bytes-set : (ls : List R.Line) (c : ℕ) (l : R.Line) → bytesList (set ls c l) ≡ set (bytesList ls) c (l .bytes)
 bytes-set [] c l = refl
@@ -55,7 +55,7 @@ lined-begins ws order n few blank =
       lines = replicate n noLine;
       count = length-replicate n noLine;
       rows = blank;
-      column = bytes-blank n mostChunks few;
+      column = taken-alike 0 n mostChunks few ∙ sym (bytes-alike n noLine);
       gives = refl;
     }
 

@@ -7,7 +7,7 @@ use native.Mathlib.Nat.{add-zero, zero-add, add-assoc}
 use native.Mathlib.Numerals.{add-one}
 use native.Mathlib.Omega.{arith}
 use lib.ListN.{length, getD, set, take, drop, length-append, length-take, length-drop, take-append-drop}
-use lib.Seq.{paste-suc, sets, sets-eq, take-at, drop-at, drop-drop, length-take-le}
+use lib.Seq.{paste-suc, sets, sets-eq, take-append-le, drop-append-le, take-at, drop-at, drop-drop, length-take-le}
 use Rattle.text.specs.Paste.{pasted, Put}
 
 pub pasted-none : (at : ℕ) (l : List ℕ) → pasted at [] l ≡ l
@@ -51,6 +51,13 @@ module _ (at : ℕ) (xs l : List ℕ) (fits : at + length xs ≤ length l) where
   pub pasted-beyond : drop (at + length xs) (pasted at xs l) ≡ drop (at + length xs) l
   unfolding pasted
   pasted-beyond = rw (← append-assoc (take at l) xs) (drop-at (take at l ++ xs) _ _ long)
+
+  -- what stands behind the list is left
+  pub pasted-before : (rest : List ℕ) → pasted at xs (l ++ rest) ≡ pasted at xs l ++ rest
+  unfolding pasted
+  pasted-before rest =
+      let near : at ≤ length l = omega arith in
+      simp (take-append-le at l rest near, drop-append-le (at + length xs) l rest fits, append-assoc)
 
   behind : (n : ℕ) → drop (at + length xs + n) (pasted at xs l) ≡ drop (at + length xs + n) l
   behind n = rw (← drop-drop n (at + length xs) (pasted at xs l), ← drop-drop n (at + length xs) l, pasted-beyond)
