@@ -1,6 +1,6 @@
 -- What the shape of an op tells of its word, and the other way. Assumes nothing.
 use mathlib.Core.Path.{_≡_, refl}
-use mathlib.Core.Bool.{Bool, true, false, cond}
+use mathlib.Core.Bool.{true, false, cond}
 use Prim.Native.Nat.{ℕ, suc, _≤_}
 use native.Mathlib.Omega.{arith}
 use lib.Dec.{eqb}
@@ -25,17 +25,21 @@ Tells w breaksIf = kind w ≡ K.BreakIf
 Tells w (calls k) = (kind w ≡ K.Call) × (fieldA w ≡ k)
 
 module _ (w : ℕ) where
-  -- what holds of the shape, by the kind; a plain op may be of any kind but those of the shapes of rows
+  -- a kind among those of If to BreakIf is at least k
+  abbrev From : ℕ → Type 0
+  From k = K.If ≤ kind w → kind w ≤ K.BreakIf → k ≤ kind w
+
+  -- what holds of the shape, by the kind; a plain op is of no kind from If to BreakIf
   pub by-kind : (P : Shape → Type 0) → (kind w ≡ K.If → P (ifTo (fieldA w))) → (kind w ≡ K.Else → P (elseTo (fieldA w))) → (kind w ≡ K.EndIf → P endIf)
       → (kind w ≡ K.Loop → P (loopTo (fieldA w))) → (kind w ≡ K.EndLoop → P endLoop) → (kind w ≡ K.Break → P breaks) → (kind w ≡ K.BreakIf → P breaksIf)
       → (kind w ≡ K.Call → P (calls (fieldA w))) → (kind w ≡ K.Return → P returns) → (kind w ≡ K.Trap → P trap)
       → ((K.If ≤ kind w → kind w ≤ K.BreakIf → ⊥) → P plain) → P (shapeOf w)
   by-kind P a b c d e f g h j k m =
-      by K.If (λ p q. p) a (λ n. by K.Else n b (λ n. by K.EndIf n c (λ n. by K.Loop n d (λ n. by K.EndLoop n e (λ n. by K.Break n f (λ n. by K.BreakIf n g (λ n.
-      by K.Call (λ p q. omega (arith, n p q)) h (λ n. by K.Return n j (λ n. by K.Trap (λ p q. omega (arith, n p q)) k (λ n. m (λ p q. omega (arith, n p q))))))))))))
+      by K.If (λ p q. p) a (λ n. by K.Else n b (λ n. by K.EndIf n c (λ n. by K.Loop n d (λ n. by K.EndLoop n e (λ n. by K.Break n f (λ n.
+      by K.BreakIf n g (λ n. by K.Call (λ p q. omega (arith, n p q)) h (λ n. by K.Return n j (λ n.
+      by K.Trap (λ p q. omega (arith, n p q)) k (λ n. m (λ p q. omega (arith, n p q))))))))))))
     where
-      by : (k : ℕ) {s t : Shape} → (K.If ≤ kind w → kind w ≤ K.BreakIf → k ≤ kind w) → (kind w ≡ k → P s) → ((K.If ≤ kind w → kind w ≤ K.BreakIf → suc k ≤ kind w) → P t)
-          → P (cond (eqb (kind w) k) s t)
+      by : (k : ℕ) {s t : Shape} → From k → (kind w ≡ k → P s) → (From (suc k) → P t) → P (cond (eqb (kind w) k) s t)
       by k {s} {t} low y n =
           (elim (eqb (kind w) k) as (λ c. eqb (kind w) k ≡ c → P (cond c s t))
           [ true ↦ λ e. y (eqb-true _ k e) | false ↦ λ e. n (λ p q. let m = eqb-false (kind w) k e in omega (arith, low p q)) ]) refl
