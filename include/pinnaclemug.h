@@ -21,9 +21,9 @@
 #define PM_WORDS 16384
 #define PM_CHUNKS 256
 
-/* The values of a chunk in a sheet's tray: cycles, peak in slots, stack bytes. A tray of the sheet needs PM_ROW times as much room as the module has
- * chunks, PM_TRAY is enough for any; a tray of the call order needs one number a chunk. */
-#define PM_ROW 3
+/* The values of a chunk in a sheet's tray: cycles, peak in slots, stack bytes, and the cycles with its callees. A tray of the sheet needs PM_ROW times as much
+ * room as the module has chunks, PM_TRAY is enough for any; a tray of the call order needs one number a chunk. */
+#define PM_ROW 4
 #define PM_TRAY (PM_ROW * PM_CHUNKS)
 
 /* The values of a stack walk: peak in slots, delta, stack bytes. */

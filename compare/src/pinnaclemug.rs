@@ -16,8 +16,8 @@ unsafe extern "C" {
     fn pm_sheet(words: *const u32, length: usize, tray: *mut u32, room: usize) -> u64;
 }
 
-/// The values of a chunk in a sheet's tray: cycles, peak and bytes.
-pub const ROW: usize = 3;
+/// The values of a chunk in a sheet's tray: cycles, peak, bytes and whole.
+pub const ROW: usize = 4;
 
 /// The values that a stack walk leaves: peak, delta and bytes.
 pub const HEIGHT: usize = 3;

@@ -1,7 +1,8 @@
 //! The stored questions: document 01's cases and what DECISIONS reads into it, every op kind, every refusal at different places, the limits, near misses of a
-//! count, and random modules from a fixed seed.
+//! count, callees, and random modules from a fixed seed.
 mod calls;
 mod counted;
+mod library;
 mod readings;
 mod rows;
 mod stacks;
@@ -33,6 +34,8 @@ pub struct Question {
     pub words: Vec<u32>,
     /// what document 01 says, or a reading of it
     pub said: Option<Outcome>,
+    /// the whole figures of a sheet, by hand
+    pub wholes: Option<Vec<i64>>,
 }
 
 impl Question {
@@ -46,6 +49,7 @@ impl Question {
             callees: Vec::new(),
             words: words.to_vec(),
             said: None,
+            wholes: None,
         }
     }
 
@@ -60,6 +64,11 @@ impl Question {
     /// Document 01's answer, or that of a reading of it.
     fn is(&mut self, values: &[i64]) {
         self.said = Some(Outcome::Answer(values.to_vec()));
+    }
+
+    /// The whole figures of a sheet's chunks.
+    fn whole(&mut self, figures: &[i64]) {
+        self.wholes = Some(figures.to_vec());
     }
 
     /// Document 01's refusal, or that of a reading of it.
@@ -174,6 +183,7 @@ pub fn all() -> Vec<Question> {
     rows::all(&mut list);
     stacks::all(&mut list);
     calls::all(&mut list);
+    library::all(&mut list);
     whole::longest(&mut list);
     whole::random_modules(&mut list, 18);
     list.0

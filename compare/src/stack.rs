@@ -186,7 +186,7 @@ fn printed(words: &[u32]) -> String {
     let mut tray = vec![0; ROW * usize::from(MOST_CHUNKS)];
     let chunks = pinnaclemug::order(words, &mut order).expect("an order");
     pinnaclemug::sheet(words, &mut tray).expect("a sheet");
-    let mut text = "chunk cycles peak bytes\n".to_string();
+    let mut text = "chunk cycles peak bytes whole\n".to_string();
     for &c in &order[..chunks] {
         let at = ROW * c as usize;
         let line: Vec<String> = tray[at..at + ROW].iter().map(u32::to_string).collect();

@@ -68,8 +68,11 @@ fn expected(question: &Question) -> Expected {
     if p > u32::MAX as usize {
         return Apart("far position", Outcome::Refused(NO_COUNT, c, p));
     }
-    let held = COMPARISONS.iter().find(|held| held.name == name(asked));
     let case = Case::new(question.words.clone(), question.callees.clone());
+    if asked == Asked::Sheet {
+        return table::original_lines(&case);
+    }
+    let held = COMPARISONS.iter().find(|held| held.name == name(asked));
     (held.expect("a comparison").original)(&case, c, p)
 }
 
@@ -112,6 +115,10 @@ fn answer(question: &Question) -> (Outcome, Option<&'static str>) {
     };
     if let Some(said) = &question.said {
         assert_eq!(&outcome, said, "{names}: document 01 says something else");
+    }
+    if let (Some(figures), Outcome::Answer(lines)) = (&question.wholes, &outcome) {
+        let found: Vec<i64> = table::wholes(lines).collect();
+        assert_eq!(&found, figures, "{names}: by hand it is something else");
     }
     if let Some(ours) = ours(question) {
         assert_eq!(ours, packed(&outcome), "{names}: we say something else");

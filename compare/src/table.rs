@@ -4,7 +4,7 @@ use crate::document::{self, Refusal};
 use crate::kinds::{REENTRANT, STREAMING};
 use crate::pinnaclemug::{self, HEIGHT, ROW};
 use crate::refusals::*;
-use crate::verify::oracle;
+use crate::verify::oracle::{self, FIELDS};
 
 /// A spoilt buffer has a word changed that was to be left as it was; it is what no side expects.
 #[derive(Clone, Debug, PartialEq)]
@@ -41,7 +41,7 @@ pub struct Comparison {
 }
 
 /// A comparison more is a line more. Our side is a proved function in each.
-pub const COMPARISONS: [Comparison; 8] = [
+pub const COMPARISONS: [Comparison; 9] = [
     Comparison {
         name: "cycles",
         each: Each::Chunk,
@@ -80,8 +80,14 @@ pub const COMPARISONS: [Comparison; 8] = [
     Comparison {
         name: "sheet",
         each: Each::Module,
-        ours: |case, _, _| sheet(&case.words, ROW * case.chunks.len() + spare(case)),
+        ours: |case, _, _| of_lines(our_sheet(case), |lines| fields(lines).collect()),
         original: original_sheet,
+    },
+    Comparison {
+        name: "whole",
+        each: Each::Module,
+        ours: |case, _, _| of_lines(our_sheet(case), |lines| wholes(lines).collect()),
+        original: original_wholes,
     },
     Comparison {
         name: "order, short tray",
@@ -100,6 +106,30 @@ pub const COMPARISONS: [Comparison; 8] = [
 /// How many words a tray is longer than it has to be.
 fn spare(case: &Case) -> usize {
     case.words.len() % 6
+}
+
+/// Our lines in a tray that may be longer than it has to be.
+fn our_sheet(case: &Case) -> Outcome {
+    sheet(&case.words, ROW * case.chunks.len() + spare(case))
+}
+
+/// The numbers of our lines that the original has too.
+pub fn fields<T: Copy>(lines: &[T]) -> impl Iterator<Item = T> {
+    let each = lines.chunks(ROW).map(|line| &line[..FIELDS]);
+    each.flatten().copied()
+}
+
+/// Those that it has not.
+pub fn wholes<T: Copy>(lines: &[T]) -> impl Iterator<Item = T> {
+    lines.iter().skip(FIELDS).step_by(ROW).copied()
+}
+
+/// Some numbers of the lines, or the refusal.
+fn of_lines(outcome: Outcome, numbers: impl Fn(&[i64]) -> Vec<i64>) -> Outcome {
+    match outcome {
+        Answer(lines) => Answer(numbers(&lines)),
+        refused => refused,
+    }
 }
 
 /// A refusal of the proved side.
@@ -261,7 +291,7 @@ fn original_sheet(case: &Case, _: usize, _: usize) -> Expected {
         Ok(order) => order,
         Err(c) => return Same(Refused(RING, c, 0)),
     };
-    let mut lines = vec![0; ROW * order.len()];
+    let mut lines = vec![0; FIELDS * order.len()];
     let mut bytes = vec![0; order.len()];
     for c in order {
         let cost = match original_cycles(case, c, 0) {
@@ -273,11 +303,51 @@ fn original_sheet(case: &Case, _: usize, _: usize) -> Expected {
             Same(Answer(stack)) => stack,
             other => return other,
         };
-        lines[ROW * c..ROW * (c + 1)].copy_from_slice(&[cost[0], stack[0], stack[2]]);
+        lines[FIELDS * c..FIELDS * (c + 1)].copy_from_slice(&[cost[0], stack[0], stack[2]]);
         bytes[c] = stack[2] as u32;
     }
     // `module_wcmu` goes through the module by itself, and has to find the same bytes.
     let whole = oracle::module_bytes(&case.module).unwrap_or_default();
     assert!(bytes == whole, "module_wcmu has other bytes than {bytes:?}");
     Same(Answer(lines))
+}
+
+/// The original has no such field. Its walk has, where each Call's extra is raised by the callee's figure; where that would make an extra open text, the
+/// figures are ours. A refused sheet is refused as before.
+fn original_wholes(case: &Case, c: usize, p: usize) -> Expected {
+    let order = match (original_sheet(case, c, p), oracle::order(&case.module)) {
+        (Same(Answer(_)), Ok(order)) => order,
+        (refused, _) => return refused,
+    };
+    let mut figures = vec![0; order.len()];
+    for c in order {
+        match oracle::cycles_over(&case.module.chunks[c], &figures) {
+            Some(figure) => figures[c] = figure,
+            None => {
+                let ours = of_lines(our_sheet(case), |lines| wholes(lines).collect());
+                return Apart("a callee's figure is no extra", ours);
+            }
+        }
+    }
+    Same(Answer(figures.into_iter().map(i64::from).collect()))
+}
+
+/// All numbers of the lines, for the stored list: the original's, and the figures with callees.
+pub fn original_lines(case: &Case) -> Expected {
+    let lines = match original_sheet(case, 0, 0) {
+        Same(Answer(lines)) => lines,
+        refused => return refused,
+    };
+    let joined = |figures: Vec<i64>| {
+        let each = lines.chunks(FIELDS).zip(figures);
+        Answer(
+            each.flat_map(|(line, figure)| [line, &[figure]].concat())
+                .collect(),
+        )
+    };
+    match original_wholes(case, 0, 0) {
+        Same(Answer(figures)) => Same(joined(figures)),
+        Apart(reason, Answer(figures)) => Apart(reason, joined(figures)),
+        refused => refused,
+    }
 }

@@ -103,7 +103,7 @@ fn sheets(list: &mut List) {
     list.sheet("sheet: chunk 2 calls itself", &itself)
         .refused(RING, 2, 0);
     let diamond = form::write(&diamond);
-    list.tray("sheet: diamond, tray one short", Asked::Sheet, &diamond, 11)
+    list.tray("sheet: diamond, tray one short", Asked::Sheet, &diamond, 15)
         .refused(SHORT_TRAY, 0, 0);
     list.tray(
         "sheet: ring, short tray",

@@ -59,7 +59,7 @@ pub fn worked_cases(list: &mut List) {
         }
     }
     list.sheet("sheet: chunk L", &[chunk_l(&[0, 3, 1])])
-        .is(&[48, 3, 160]);
+        .is(&[48, 3, 160, 48]);
 }
 
 /// As many words as there may be, and one more.

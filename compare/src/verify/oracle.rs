@@ -2,8 +2,10 @@
 use super::*;
 use crate::bytecode::{NOMINAL_COST_MODEL, VALUE_SLOT_SIZE_BYTES};
 use crate::document::Refusal;
-use crate::pinnaclemug::ROW;
 use crate::refusals::*;
+
+/// The numbers of a line that the original has: cycles, peak and bytes.
+pub const FIELDS: usize = 3;
 
 /// The number behind some words of a message.
 fn behind(message: &str, words: &str) -> usize {
@@ -66,6 +68,19 @@ pub fn cycles(chunk: &Chunk) -> Result<(u32, bool), Refusal> {
         .map_err(refusal)
 }
 
+/// The same walk over extras that have what each Call's callee adds in them, by the callees' figures: none where an extra would be open text for that.
+pub fn cycles_over(chunk: &Chunk, callees: &[u32]) -> Option<u32> {
+    let mut raised = chunk.clone();
+    raised.extras.resize(chunk.ops.len(), 0);
+    for (op, extra) in chunk.ops.iter().zip(&mut raised.extras) {
+        if let Op::Call(callee, _) = op {
+            let figure = callees.get(usize::from(*callee)).unwrap_or(&0);
+            *extra = extra.checked_add(*figure).filter(|&sum| sum < u32::MAX)?;
+        }
+    }
+    cycles(&raised).ok().map(|(cycles, _)| cycles)
+}
+
 /// The public entry: `wcet_stream_iteration` or `wcet_whole_chunk`.
 pub fn public_cycles(chunk: &Chunk) -> Result<u32, Refusal> {
     match chunk.block_type {
@@ -112,7 +127,7 @@ pub fn module_bytes(module: &Module) -> Option<Vec<u32>> {
 pub fn sheet(module: &Module) -> Option<Vec<u32>> {
     let slot = VALUE_SLOT_SIZE_BYTES;
     let mut known = vec![Some((0, 0)); module.chunks.len()];
-    let mut lines = vec![0; ROW * module.chunks.len()];
+    let mut lines = vec![0; FIELDS * module.chunks.len()];
     for c in order(module).ok()? {
         let chunk = &module.chunks[c];
         let (cost, _) = cycles(chunk).ok()?;
@@ -123,7 +138,8 @@ pub fn sheet(module: &Module) -> Option<Vec<u32>> {
         };
         let walk = wcmu_region(chunk, start, end, &mut Vec::new(), &resolver, slot).ok()?;
         let bytes = (u32::from(chunk.local_count) + walk.peak_above_initial) * slot;
-        lines[ROW * c..ROW * (c + 1)].copy_from_slice(&[cost, walk.peak_above_initial, bytes]);
+        let line = [cost, walk.peak_above_initial, bytes];
+        lines[FIELDS * c..FIELDS * (c + 1)].copy_from_slice(&line);
         known[c] = Some((bytes, 0));
     }
     Some(lines)

@@ -16,6 +16,7 @@ use Rattle.rules.specs.Reading.{constantsOf, extrasOf, extraAt}
 use Rattle.rules.specs.Count.{countAt}
 use Rattle.rules.specs.Cycles.{costliest, noteBreak, breakCost}
 use Rattle.rules.specs.Outcome.{ok, no, found, nothing}
+use Rattle.rules.proofs.Callees.{none-charged}
 use Rattle.words.proofs.OpLaws.{read-op}
 use Rattle.cycles.specs.Answers.{breaksFrom, breaksOf, chargeAt}
 use Rattle.cycles.specs.declared.sums.Breaks.{Breaks}
@@ -47,7 +48,9 @@ module _ (ops extras : List ℕ) (i x : ℕ) (is : x ≡ extraAt (extrasOf extra
 
   pub charge-some : (x ≡ 4294967295 → ⊥) → i < length ops → (own y : ℕ) → own ≡ figuresOf (getD ops i 0) .cycles → y ≡ cut (own + x)
       → ok y ≡ chargeAt ops extras i
-  charge-some n lt own y e s = rw (ne-eqb (extraAt (extrasOf extras) i) 4294967295 (λ q. n (is ∙ q)), read-op ops i, ← is, ← e, s)
+  charge-some n lt own y e s =
+      let alone : own + x + 0 ≡ own + x = omega arith in
+      rw (ne-eqb (extraAt (extrasOf extras) i) 4294967295 (λ q. n (is ∙ q)), read-op ops i, none-charged (getD ops i 0), ← is, ← e, alone, s)
 
 -- a body that never reaches its end
 module _ (e cost s : ℕ) (body : Cost) (b : Breaks) where

@@ -29,13 +29,13 @@ abbrev pub chunkOf : List ℕ → List ℕ → List ℕ → Chunk
 chunkOf constants ops extras =
     record { locals = 0; type = 0; constants = constantsOf constants; ops = ops; extras = extrasOf extras }
 
--- the capped charge of an op
+-- the capped charge of an op, without what a callee adds
 abbrev pub capCharge : Result ℕ → Result ℕ
 capCharge (ok c) = ok (min cycleCap c)
 capCharge (no n p) = no n p
 
 abbrev pub chargeAt : List ℕ → List ℕ → ℕ → Result ℕ
-chargeAt ops extras i = capCharge (R.chargeOf (chunkOf [] ops extras) i)
+chargeAt ops extras i = capCharge (R.chargeOf (chunkOf [] ops extras) [] i)
 
 abbrev pub chargeResult : ℕ → Charge → Result ℕ
 chargeResult i (Is c) = ok c
@@ -48,11 +48,11 @@ abbrev pub walkResult : W.Walk → Result R.Cost
 walkResult (W.the-variants.Done c) = ok (costOf c)
 walkResult (W.the-variants.Refused n p) = no n p
 
--- the walk of the positions from i up to `to` of a chunk, with so many levels left, from a cost and breaks
-abbrev pub regionCost : Chunk → ℕ → ℕ → ℕ → ℕ → R.Breaks → Result R.Cost
-regionCost c i to left cost breaks =
-    R.rowCost (min cycleCap) (R.chargeOf c) (countOf c) (treeOf (opAt (c .ops)) i to) left cost breaks
+-- the walk of the positions from i up to `to` of a chunk over its callees' whole figures, with so many levels left, from a cost and breaks
+abbrev pub regionCost : Chunk → List ℕ → ℕ → ℕ → ℕ → ℕ → R.Breaks → Result R.Cost
+regionCost c wholes i to left cost breaks =
+    R.rowCost (min cycleCap) (R.chargeOf c wholes) (countOf c) (treeOf (opAt (c .ops)) i to) left cost breaks
 
 -- the same of a body, one level deeper
-abbrev pub partCost : Chunk → ℕ → ℕ → ℕ → R.Breaks → Result R.Cost
-partCost c i to left breaks = R.inner left (λ l. regionCost c i to l 0 breaks)
+abbrev pub partCost : Chunk → List ℕ → ℕ → ℕ → ℕ → R.Breaks → Result R.Cost
+partCost c wholes i to left breaks = R.inner left (λ l. regionCost c wholes i to l 0 breaks)

@@ -1,4 +1,5 @@
 -- What the answer of the cycle walk of one chunk stands for in document 01.
+use mathlib.Core.List.{List, []}
 use Prim.Native.Nat.{ℕ}
 use Rattle.rules.specs.Outcome.{Result, Outcome, answer, refused, andThen}
 use Rattle.rules.specs.Form.{Chunk}
@@ -14,9 +15,9 @@ answerOutcome (Are c e) = answer (record { cycles = c; ends = e })
 answerOutcome (Refused n c p) = refused n c p
 
 -- the walk of a whole range: 256 levels, no cost and no break yet
-abbrev pub wholeCost : Chunk → ℕ → ℕ → Result R.Cost
-wholeCost c from to = regionCost c from to deepest 0 R.unbroken
+abbrev pub rangeCost : Chunk → List ℕ → ℕ → ℕ → Result R.Cost
+rangeCost c wholes from to = regionCost c wholes from to deepest 0 R.unbroken
 
--- the same of a chunk, behind the tests of its row
+-- the same of a chunk, behind the tests of its row and with no callee charged
 abbrev pub chunkCost : Chunk → Result R.Cost
-chunkCost k = andThen (chunkRow k) (λ r. R.cappedCost cycleCap k r)
+chunkCost k = andThen (chunkRow k) (λ r. R.cappedCost cycleCap k [] r)

@@ -20,10 +20,10 @@ abbrev pub cut : ℕ → ℕ
 cut n = min cycleCap n
 
 -- how a row that ends at `to` goes on from a step
-abbrev pub stepResult : Chunk → ℕ → ℕ → Step → Result R.Cost
-stepResult c to left (Goes j k b) = regionCost c j to left k (breaksOf b)
-stepResult c to left (Ends k) = ok (costOf k)
-stepResult c to left (Refused n p) = no n p
+abbrev pub stepResult : Chunk → List ℕ → ℕ → ℕ → Step → Result R.Cost
+stepResult c wholes to left (Goes j k b) = regionCost c wholes j to left k (breaksOf b)
+stepResult c wholes to left (Ends k) = ok (costOf k)
+stepResult c wholes to left (Refused n p) = no n p
 
 -- a step from i goes on behind i, before a row
 abbrev pub Onward : List ℕ → ℕ → ℕ → Step → Type 0
@@ -32,52 +32,52 @@ Onward ops i to (Ends k) = Unit {0}
 Onward ops i to (Refused n p) = Unit {0}
 
 -- a step that gives this result, and goes on
-abbrev pub Means : List ℕ → List ℕ → List ℕ → ℕ → ℕ → ℕ → Result R.Cost → Step → Type 0
-Means constants ops extras i to left result r = (stepResult (chunkOf constants ops extras) to left r ≡ result) × Onward ops i to r
+abbrev pub Means : List ℕ → List ℕ → List ℕ → List ℕ → ℕ → ℕ → ℕ → Result R.Cost → Step → Type 0
+Means constants ops extras wholes i to left result r = (stepResult (chunkOf constants ops extras) wholes to left r ≡ result) × Onward ops i to r
 
 -- the walk from an op on
-abbrev pub StepMeans : List ℕ → List ℕ → List ℕ → ℕ → ℕ → ℕ → ℕ → Breaks → Step → Type 0
-StepMeans constants ops extras i to left cost b r =
-    Means constants ops extras i to left (regionCost (chunkOf constants ops extras) i to left cost (breaksOf b)) r
+abbrev pub StepMeans : List ℕ → List ℕ → List ℕ → List ℕ → ℕ → ℕ → ℕ → ℕ → Breaks → Step → Type 0
+StepMeans constants ops extras wholes i to left cost b r =
+    Means constants ops extras wholes i to left (regionCost (chunkOf constants ops extras) wholes i to left cost (breaksOf b)) r
 
 -- the walk behind an If that was charged: arm, EndIf at t
-abbrev pub ifTail : Chunk → ℕ → ℕ → ℕ → ℕ → ℕ → R.Breaks → Result R.Cost
-ifTail c i t to left cost breaks =
-    andThen (partCost c (suc i) t left breaks)
-    (λ arm. andThen (R.chargeOf c t)
-    (λ d. regionCost c (suc t) to left (cut (cut (cost + arm .cycles) + cut d)) (arm .breaks)))
+abbrev pub ifTail : Chunk → List ℕ → ℕ → ℕ → ℕ → ℕ → ℕ → R.Breaks → Result R.Cost
+ifTail c wholes i t to left cost breaks =
+    andThen (partCost c wholes (suc i) t left breaks)
+    (λ arm. andThen (R.chargeOf c wholes t)
+    (λ d. regionCost c wholes (suc t) to left (cut (cut (cost + arm .cycles) + cut d)) (arm .breaks)))
 
-abbrev pub IfMeans : List ℕ → List ℕ → List ℕ → ℕ → ℕ → ℕ → ℕ → ℕ → Breaks → Step → Type 0
-IfMeans constants ops extras i t to left cost b r =
-    Means constants ops extras i to left (ifTail (chunkOf constants ops extras) i t to left cost (breaksOf b)) r
+abbrev pub IfMeans : List ℕ → List ℕ → List ℕ → List ℕ → ℕ → ℕ → ℕ → ℕ → ℕ → Breaks → Step → Type 0
+IfMeans constants ops extras wholes i t to left cost b r =
+    Means constants ops extras wholes i to left (ifTail (chunkOf constants ops extras) wholes i t to left cost (breaksOf b)) r
 
 -- both arms walked: Else at e, EndIf at f
-abbrev pub armsTail : Chunk → ℕ → ℕ → ℕ → ℕ → ℕ → R.Cost → R.Cost → Result R.Cost
-armsTail c e f to left cost arm other =
-    andThen (R.chargeOf c e)
-    (λ d. andThen (R.chargeOf c f)
+abbrev pub armsTail : Chunk → List ℕ → ℕ → ℕ → ℕ → ℕ → ℕ → R.Cost → R.Cost → Result R.Cost
+armsTail c wholes e f to left cost arm other =
+    andThen (R.chargeOf c wholes e)
+    (λ d. andThen (R.chargeOf c wholes f)
     (λ g. R.unlessEnds (arm .ends && other .ends) (cut (cut (cost + max (cut (arm .cycles + cut d)) (other .cycles)) + cut g)) (other .breaks)
-    (λ k b. regionCost c (suc f) to left k b)))
+    (λ k b. regionCost c wholes (suc f) to left k b)))
 
 -- the walk behind an If that was charged: first arm, second arm, Else at e, EndIf at f
-abbrev pub elseTail : Chunk → ℕ → ℕ → ℕ → ℕ → ℕ → ℕ → R.Breaks → Result R.Cost
-elseTail c i e f to left cost breaks =
-    andThen (partCost c (suc i) e left breaks)
-    (λ arm. andThen (partCost c (suc e) f left (arm .breaks)) (λ other. armsTail c e f to left cost arm other))
+abbrev pub elseTail : Chunk → List ℕ → ℕ → ℕ → ℕ → ℕ → ℕ → ℕ → R.Breaks → Result R.Cost
+elseTail c wholes i e f to left cost breaks =
+    andThen (partCost c wholes (suc i) e left breaks)
+    (λ arm. andThen (partCost c wholes (suc e) f left (arm .breaks)) (λ other. armsTail c wholes e f to left cost arm other))
 
-abbrev pub ElseMeans : List ℕ → List ℕ → List ℕ → ℕ → ℕ → ℕ → ℕ → ℕ → ℕ → Breaks → Step → Type 0
-ElseMeans constants ops extras i e f to left cost b r =
-    Means constants ops extras i to left (elseTail (chunkOf constants ops extras) i e f to left cost (breaksOf b)) r
+abbrev pub ElseMeans : List ℕ → List ℕ → List ℕ → List ℕ → ℕ → ℕ → ℕ → ℕ → ℕ → ℕ → Breaks → Step → Type 0
+ElseMeans constants ops extras wholes i e f to left cost b r =
+    Means constants ops extras wholes i to left (elseTail (chunkOf constants ops extras) wholes i e f to left cost (breaksOf b)) r
 
 -- the walk behind a Loop that was charged: body, passes, EndLoop at e
-abbrev pub loopTail : Chunk → ℕ → ℕ → ℕ → ℕ → ℕ → R.Breaks → Result R.Cost
-loopTail c i e to left cost breaks =
-    andThen (partCost c (suc i) e left R.unbroken)
-    (λ body. R.passesCost cut (R.chargeOf c) (countOf c) (body .ends) i e body cost breaks (λ k b. regionCost c (suc e) to left k b))
+abbrev pub loopTail : Chunk → List ℕ → ℕ → ℕ → ℕ → ℕ → ℕ → R.Breaks → Result R.Cost
+loopTail c wholes i e to left cost breaks =
+    andThen (partCost c wholes (suc i) e left R.unbroken)
+    (λ body. R.passesCost cut (R.chargeOf c wholes) (countOf c) (body .ends) i e body cost breaks (λ k b. regionCost c wholes (suc e) to left k b))
 
-abbrev pub LoopMeans : List ℕ → List ℕ → List ℕ → ℕ → ℕ → ℕ → ℕ → ℕ → Breaks → Step → Type 0
-LoopMeans constants ops extras i e to left cost b r =
-    Means constants ops extras i to left (loopTail (chunkOf constants ops extras) i e to left cost (breaksOf b)) r
+abbrev pub LoopMeans : List ℕ → List ℕ → List ℕ → List ℕ → ℕ → ℕ → ℕ → ℕ → ℕ → Breaks → Step → Type 0
+LoopMeans constants ops extras wholes i e to left cost b r =
+    Means constants ops extras wholes i to left (loopTail (chunkOf constants ops extras) wholes i e to left cost (breaksOf b)) r
 
 -- a step that ends the row
 abbrev pub endedAt : ℕ → Breaks → Step

@@ -1,11 +1,11 @@
-// The charge of an op: its cycles and its extra.
+// The charge of an op: its cycles and its extra; and what a callee adds to its Call.
 use crate::sums::cap_add;
 use words::figures::cycles;
 use words::limits::OPEN_TEXT;
 use words::values::extra_at;
 ghost use mathlib.Core.Path.{_≡_};
 ghost use Prim.Native.Nat.{_<_};
-ghost use lib.ListN.{length};
+ghost use lib.ListN.{length, getD};
 ghost use Rattle.cycles.specs.Answers.{chargeResult, chargeAt};
 
 // A charge, or open text: the greatest extra.
@@ -14,7 +14,14 @@ pub enum Charge {
     OpenText,
 }
 
-// Cycles plus extra of the op at i.
+// The whole figure of a callee, 0 past the list's end.
+pub fn whole_at(wholes: &[u32], k: usize) -> u32
+    ensures { λ r. ⌜ r ≡ getD (now (wholes .entry)) k 0 ⌝ }
+{
+    if k < wholes.len() { wholes[k] } else { 0 }
+}
+
+// Cycles plus extra of the op at i, without what a callee adds.
 pub fn op_wcet_cycles(ops: &[u32], extras: &[u32], i: usize) -> Charge
     requires { ⌜ i < length (now ops) ⌝ }
     ensures { λ r. ⌜ chargeResult i r ≡ chargeAt (now (ops .entry)) (now (extras .entry)) i ⌝ }

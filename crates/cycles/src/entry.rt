@@ -17,7 +17,7 @@ ghost use Rattle.rules.specs.Sheet.{cyclesOutcome};
 ghost use Rattle.words.specs.Parts.{PartsOf, PartsFit};
 ghost use Rattle.rows.specs.Opens.{RowFits};
 ghost use Rattle.cycles.specs.Answers.{walkResult, chunkOf};
-ghost use Rattle.cycles.specs.Entry.{answerOutcome, wholeCost, chunkCost};
+ghost use Rattle.cycles.specs.Entry.{answerOutcome, rangeCost, chunkCost};
 
 // The cycles and whether the row ends, or refusal 1, 2, 12 or 3 to 9.
 pub enum CyclesAnswer {
@@ -32,19 +32,26 @@ pub enum CyclesAnswer {
     },
 }
 
-// The whole range of a chunk, with 256 levels of nesting.
-pub fn wcet_region(constants: &[u32], ops: &[u32], extras: &[u32], from: usize, to: usize) -> Walk
+// The range of a chunk, with 256 levels of nesting, over its callees' whole figures.
+pub fn wcet_region(
+    constants: &[u32],
+    ops: &[u32],
+    extras: &[u32],
+    wholes: &[u32],
+    from: usize,
+    to: usize,
+) -> Walk
     requires { ⌜ RowFits (now ops) from to ⌝ }
-    ensures { λ r. ⌜ walkResult r ≡ wholeCost (chunkOf (now (constants .entry)) (now (ops .entry)) (now (extras .entry))) from to ⌝ }
+    ensures { λ r. ⌜ walkResult r ≡ rangeCost (chunkOf (now (constants .entry)) (now (ops .entry)) (now (extras .entry))) (now (wholes .entry)) from to ⌝ }
 {
     let none = Breaks {
         met: false,
         costliest: 0,
     };
-    wcet_region_at(constants, ops, extras, from, to, LEVELS, none)
+    wcet_region_at(constants, ops, extras, wholes, from, to, LEVELS, none)
 }
 
-// The cycle walk of the chunk with these parts: 3, 4, 5, 6, and 7 to 9 as the walk meets them.
+// The cycle walk of the chunk with these parts: 3, 4, 5, 6, and 7 to 9 as the walk meets them. No callee is charged.
 fn chunk_cycles(words: &[u32], p: Parts) -> Walk
     requires { ⌜ PartsFit (now words) p ⌝ }
     ensures { λ r. ⌜ ((k : Chunk) → PartsOf (now (words .entry)) p k → walkResult r ≡ chunkCost k) ⌝ }
@@ -61,6 +68,7 @@ fn chunk_cycles(words: &[u32], p: Parts) -> Walk
         constants_of(words, p),
         ops,
         extras_of(words, p),
+        &words[..0],
         range.from,
         range.to,
     )

@@ -1,6 +1,7 @@
 // The cycle walk of a row: op after op, with the bodies of its blocks one level deeper.
 use crate::charge::Charge;
 use crate::charge::op_wcet_cycles;
+use crate::charge::whole_at;
 use crate::sums::Breaks;
 use crate::sums::break_cost;
 use crate::sums::cap_add;
@@ -50,24 +51,26 @@ fn ended(cycles: u32, breaks: Breaks) -> Step
     })
 }
 
-// The row from `from` up to `to`, with `left` levels of nesting left inside it and the breaks met so far.
+// The row from `from` up to `to`, with `left` levels of nesting left inside it and the breaks met so far. A Call is charged the whole figure that the list
+// has for its callee.
 pub fn wcet_region_at(
     constants: &[u32],
     ops: &[u32],
     extras: &[u32],
+    wholes: &[u32],
     from: usize,
     to: usize,
     left: u16,
     breaks: Breaks,
 ) -> Walk
     requires { ⌜ RowFits (now ops) from to ⌝ }
-    ensures { λ r. ⌜ walkResult r ≡ regionCost (chunkOf (now (constants .entry)) (now (ops .entry)) (now (extras .entry))) from to left 0 (breaksOf breaks) ⌝ }
+    ensures { λ r. ⌜ walkResult r ≡ regionCost (chunkOf (now (constants .entry)) (now (ops .entry)) (now (extras .entry))) (now (wholes .entry)) from to left 0 (breaksOf breaks) ⌝ }
 {
     let mut i = from;
     let mut cycles: u32 = 0;
     let mut met = breaks;
     while i < to {
-        let step = wcet_step(constants, ops, extras, i, left, cycles, met);
+        let step = wcet_step(constants, ops, extras, wholes, i, left, cycles, met);
         match step {
             Step::Goes(next, cost, noted) => {
                 i = next;
@@ -94,13 +97,14 @@ fn wcet_step(
     constants: &[u32],
     ops: &[u32],
     extras: &[u32],
+    wholes: &[u32],
     i: usize,
     left: u16,
     cycles: u32,
     breaks: Breaks,
 ) -> Step
     requires { ⌜ ((to : ℕ) × StepFits (now ops) i to) ⌝ }
-    ensures { λ r. ⌜ ((to : ℕ) → StepFits (now (ops .entry)) i to → StepMeans (now (constants .entry)) (now (ops .entry)) (now (extras .entry)) i to left cycles breaks r) ⌝ }
+    ensures { λ r. ⌜ ((to : ℕ) → StepFits (now (ops .entry)) i to → StepMeans (now (constants .entry)) (now (ops .entry)) (now (extras .entry)) (now (wholes .entry)) i to left cycles breaks r) ⌝ }
 {
     let charge = op_wcet_cycles(ops, extras, i);
     let Charge::Is(own) = charge else {
@@ -117,9 +121,21 @@ fn wcet_step(
         Block::Ends => ended(cost, breaks),
         Block::Break => ended(cost, note_break(breaks, cost)),
         Block::BreakIf => Step::Goes(next, cost, note_break(breaks, cost)),
-        Block::If(t) => wcet_if(constants, ops, extras, i, t, left, cost, breaks),
-        Block::IfElse(e, f) => wcet_else(constants, ops, extras, i, e, f, left, cost, breaks),
-        Block::Loop(e) => wcet_loop(constants, ops, extras, i, e, left, cost, breaks),
+        Block::If(t) => wcet_if(constants, ops, extras, wholes, i, t, left, cost, breaks),
+        Block::IfElse(e, f) => wcet_else(
+            constants,
+            ops,
+            extras,
+            wholes,
+            i,
+            e,
+            f,
+            left,
+            cost,
+            breaks,
+        ),
+        Block::Loop(e) => wcet_loop(constants, ops, extras, wholes, i, e, left, cost, breaks),
+        Block::Call(k) => Step::Goes(next, cap_add(cost, whole_at(wholes, k)), breaks),
     }
 }
 
@@ -128,13 +144,14 @@ fn wcet_part(
     constants: &[u32],
     ops: &[u32],
     extras: &[u32],
+    wholes: &[u32],
     from: usize,
     to: usize,
     left: u16,
     breaks: Breaks,
 ) -> Walk
     requires { ⌜ RowFits (now ops) from to ⌝ }
-    ensures { λ r. ⌜ walkResult r ≡ partCost (chunkOf (now (constants .entry)) (now (ops .entry)) (now (extras .entry))) from to left (breaksOf breaks) ⌝ }
+    ensures { λ r. ⌜ walkResult r ≡ partCost (chunkOf (now (constants .entry)) (now (ops .entry)) (now (extras .entry))) (now (wholes .entry)) from to left (breaksOf breaks) ⌝ }
 {
     if left == 0 {
         return Walk::Refused {
@@ -142,7 +159,7 @@ fn wcet_part(
             place: 0,
         };
     }
-    wcet_region_at(constants, ops, extras, from, to, left - 1, breaks)
+    wcet_region_at(constants, ops, extras, wholes, from, to, left - 1, breaks)
 }
 
 // Behind an If at i, charged already, with EndIf at t: the arm, and EndIf.
@@ -150,6 +167,7 @@ fn wcet_if(
     constants: &[u32],
     ops: &[u32],
     extras: &[u32],
+    wholes: &[u32],
     i: usize,
     t: usize,
     left: u16,
@@ -157,9 +175,9 @@ fn wcet_if(
     breaks: Breaks,
 ) -> Step
     requires { ⌜ ((to : ℕ) × IfFits (now ops) i t to) ⌝ }
-    ensures { λ r. ⌜ ((to : ℕ) → IfFits (now (ops .entry)) i t to → IfMeans (now (constants .entry)) (now (ops .entry)) (now (extras .entry)) i t to left cost breaks r) ⌝ }
+    ensures { λ r. ⌜ ((to : ℕ) → IfFits (now (ops .entry)) i t to → IfMeans (now (constants .entry)) (now (ops .entry)) (now (extras .entry)) (now (wholes .entry)) i t to left cost breaks r) ⌝ }
 {
-    let part = wcet_part(constants, ops, extras, i + 1, t, left, breaks);
+    let part = wcet_part(constants, ops, extras, wholes, i + 1, t, left, breaks);
     let arm = match part {
         Walk::Done(c) => c,
         Walk::Refused { number, place } => {
@@ -183,6 +201,7 @@ fn wcet_else(
     constants: &[u32],
     ops: &[u32],
     extras: &[u32],
+    wholes: &[u32],
     i: usize,
     e: usize,
     f: usize,
@@ -191,9 +210,9 @@ fn wcet_else(
     breaks: Breaks,
 ) -> Step
     requires { ⌜ ((to : ℕ) × ElseFits (now ops) i e f to) ⌝ }
-    ensures { λ r. ⌜ ((to : ℕ) → ElseFits (now (ops .entry)) i e f to → ElseMeans (now (constants .entry)) (now (ops .entry)) (now (extras .entry)) i e f to left cost breaks r) ⌝ }
+    ensures { λ r. ⌜ ((to : ℕ) → ElseFits (now (ops .entry)) i e f to → ElseMeans (now (constants .entry)) (now (ops .entry)) (now (extras .entry)) (now (wholes .entry)) i e f to left cost breaks r) ⌝ }
 {
-    let first = wcet_part(constants, ops, extras, i + 1, e, left, breaks);
+    let first = wcet_part(constants, ops, extras, wholes, i + 1, e, left, breaks);
     let arm = match first {
         Walk::Done(c) => c,
         Walk::Refused { number, place } => {
@@ -201,7 +220,7 @@ fn wcet_else(
         }
     };
     let noted = arm.breaks;
-    let second = wcet_part(constants, ops, extras, e + 1, f, left, noted);
+    let second = wcet_part(constants, ops, extras, wholes, e + 1, f, left, noted);
     let other = match second {
         Walk::Done(c) => c,
         Walk::Refused { number, place } => {
@@ -257,6 +276,7 @@ fn wcet_loop(
     constants: &[u32],
     ops: &[u32],
     extras: &[u32],
+    wholes: &[u32],
     i: usize,
     e: usize,
     left: u16,
@@ -264,13 +284,13 @@ fn wcet_loop(
     breaks: Breaks,
 ) -> Step
     requires { ⌜ ((to : ℕ) × LoopFits (now ops) i e to) ⌝ }
-    ensures { λ r. ⌜ ((to : ℕ) → LoopFits (now (ops .entry)) i e to → LoopMeans (now (constants .entry)) (now (ops .entry)) (now (extras .entry)) i e to left cost breaks r) ⌝ }
+    ensures { λ r. ⌜ ((to : ℕ) → LoopFits (now (ops .entry)) i e to → LoopMeans (now (constants .entry)) (now (ops .entry)) (now (extras .entry)) (now (wholes .entry)) i e to left cost breaks r) ⌝ }
 {
     let none = Breaks {
         met: false,
         costliest: 0,
     };
-    let part = wcet_part(constants, ops, extras, i + 1, e, left, none);
+    let part = wcet_part(constants, ops, extras, wholes, i + 1, e, left, none);
     let body = match part {
         Walk::Done(c) => c,
         Walk::Refused { number, place } => {

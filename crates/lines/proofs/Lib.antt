@@ -1,1 +1,2 @@
+pub mod CostLaws
 pub mod LineLaws

@@ -1,6 +1,6 @@
 // One line of the sheet: the tests and walks of one chunk.
-use cycles::entry::wcet_region;
-use cycles::region::Walk;
+use crate::costs::Costs;
+use crate::costs::chunk_costs;
 use rows::check::RowAnswer;
 use rows::check::chunk_row;
 use stack::chunk::StackResult;
@@ -17,11 +17,12 @@ ghost use Rattle.rules.specs.Sheet.{chunkLine};
 ghost use Rattle.words.specs.Parts.{PartsOf, PartsFit};
 ghost use Rattle.lines.specs.Line.{lineResult};
 
-// A chunk's line: cycles, peak in slots, stack bytes.
+// A chunk's line: cycles, peak in slots, stack bytes, and the cycles with its callees.
 pub struct Line {
     pub cycles: u32,
     pub peak: Slots,
     pub bytes: StackBytes,
+    pub whole: u32,
 }
 
 // A line, or refusal 3 to 9 or 11 with its place.
@@ -30,10 +31,10 @@ pub enum LineAnswer {
     Refused { number: u32, place: usize },
 }
 
-// The line of the chunk with these parts, over the stack bytes of its callees: 3, 4, 5, 6, the cycle walk, the stack walk, 11.
-pub fn chunk_line(words: &[u32], p: Parts, callees: &[u32]) -> LineAnswer
+// The line of the chunk with these parts, over the stack bytes and the whole figures of its callees: 3, 4, 5, 6, the cycle walks, the stack walk, 11.
+pub fn chunk_line(words: &[u32], p: Parts, callees: &[u32], wholes: &[u32]) -> LineAnswer
     requires { ⌜ PartsFit (now words) p ⌝ }
-    ensures { λ r. ⌜ ((k : Chunk) → PartsOf (now (words .entry)) p k → lineResult r ≡ chunkLine k (now (callees .entry))) ⌝ }
+    ensures { λ r. ⌜ ((k : Chunk) → PartsOf (now (words .entry)) p k → lineResult r ≡ chunkLine k (now (callees .entry)) (now (wholes .entry))) ⌝ }
 {
     let ops = ops_of(words, p);
     let constants = constants_of(words, p);
@@ -46,10 +47,10 @@ pub fn chunk_line(words: &[u32], p: Parts, callees: &[u32]) -> LineAnswer
     };
     let from = range.from;
     let to = range.to;
-    let walk = wcet_region(constants, ops, extras_of(words, p), from, to);
-    let cost = match walk {
-        Walk::Done(c) => c,
-        Walk::Refused { number, place } => {
+    let costs = chunk_costs(constants, ops, extras_of(words, p), wholes, from, to);
+    let cost = match costs {
+        Costs::Are(c) => c,
+        Costs::Refused { number, place } => {
             return LineAnswer::Refused { number, place };
         }
     };
@@ -63,6 +64,7 @@ pub fn chunk_line(words: &[u32], p: Parts, callees: &[u32]) -> LineAnswer
             cycles: cost.cycles,
             peak,
             bytes,
+            whole: cost.whole,
         }),
         StackResult::Refused { number, place } => LineAnswer::Refused { number, place },
     }

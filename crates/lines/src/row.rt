@@ -15,7 +15,9 @@ pub const PEAK: usize = 1;
 
 pub const BYTES: usize = 2;
 
-pub const WIDTH: usize = 3;
+pub const WHOLE: usize = 3;
+
+pub const WIDTH: usize = 4;
 
 // The numbers of the most chunks that a module has.
 pub const ROOM: usize = CHUNKS * WIDTH;
@@ -29,4 +31,5 @@ pub fn put_row(numbers: &mut [u32], c: usize, line: Line)
     numbers[at + CYCLES] = line.cycles;
     numbers[at + PEAK] = line.peak.0;
     numbers[at + BYTES] = line.bytes.0;
+    numbers[at + WHOLE] = line.whole;
 }

@@ -14,7 +14,8 @@ use Rattle.sheets.proofs.TrayLaws.{tray-size, tray-row}
 
 -- the fields of a line: the chunk, and the numbers of its row
 pub row-line : (c : ℕ) (l : Line) {row : List ℕ} → row ≡ lineNumbers l
-    → flatten (fieldText c space ∷ fieldText (getD row 0 0) space ∷ fieldText (getD row 1 0) space ∷ fieldText (getD row 2 0) newline ∷ [])
+    → flatten (fieldText c space ∷ fieldText (getD row 0 0) space ∷ fieldText (getD row 1 0) space ∷ fieldText (getD row 2 0) space
+    ∷ fieldText (getD row 3 0) newline ∷ [])
     ≡ lineText c l
 unfolding flatten fieldText
 row-line c l is = rw is (simp (append-assoc, append-nil))

@@ -2,6 +2,7 @@
 use lines::row::BYTES;
 use lines::row::CYCLES;
 use lines::row::PEAK;
+use lines::row::WHOLE;
 use lines::row::WIDTH;
 use text::put_bytes;
 use text::put_field;
@@ -13,7 +14,7 @@ ghost use Rattle.rules.specs.Text.{heading, lineMost, lineText};
 ghost use Rattle.text.specs.Paste.{pasted, Put};
 
 // The bytes of the heading.
-pub const HEADING: usize = 24;
+pub const HEADING: usize = 30;
 
 // The most bytes of a number: ten digits and the byte behind them.
 const FIELD: usize = 11;
@@ -27,7 +28,7 @@ pub fn put_heading(out: &mut [u8], at: usize) -> usize
     ensures written { λ _. ⌜ now (out .exit) ≡ pasted at heading (now (out .entry)) ⌝ }
     ensures next { λ r. ⌜ r ≡ at + length heading ⌝ }
 {
-    put_bytes(out, at, b"chunk cycles peak bytes\n")
+    put_bytes(out, at, b"chunk cycles peak bytes whole\n")
 }
 
 // The line of chunk c, whose numbers are the row.
@@ -39,5 +40,6 @@ pub fn put_line(out: &mut [u8], at: usize, c: u32, row: &[u32]) -> usize
     let first = put_field(out, at, c as u64, b' ');
     let second = put_field(out, first, row[CYCLES] as u64, b' ');
     let third = put_field(out, second, row[PEAK] as u64, b' ');
-    put_field(out, third, row[BYTES] as u64, b'\n')
+    let fourth = put_field(out, third, row[BYTES] as u64, b' ');
+    put_field(out, fourth, row[WHOLE] as u64, b'\n')
 }

@@ -10,12 +10,12 @@ use borrow.Author.Tests.{eqb-true, eqb-false}
 use lib.ListN.{length, getD}
 use Rattle.rules.specs.Kinds as K
 use Rattle.rules.specs.Ops.{kind, fieldA, opAt}
-use Rattle.rules.specs.Rows.{Shape, trap, returns, ifTo, loopTo, breaks, breaksIf, shapeOf}
+use Rattle.rules.specs.Rows.{Shape, trap, returns, ifTo, loopTo, breaks, breaksIf, calls, shapeOf}
 use Rattle.rules.proofs.Shapes.{by-kind}
 use Rattle.words.proofs.OpLaws.{read-op}
 use Rattle.rows.specs.Tree.{HasRow}
 use Rattle.rows.specs.Opens.{IfAt, ElseAt, Opens, StepFits}
-use Rattle.rows.specs.declared.block.Block.the-variants.{Plain, Ends, Break, BreakIf, If, IfElse, Loop}
+use Rattle.rows.specs.declared.block.Block.the-variants.{Plain, Call, Ends, Break, BreakIf, If, IfElse, Loop}
 use Rattle.rows.proofs.TreeLaws.{OpensAs, opens}
 
 module _ (op : ℕ → ℕ) (l : Bool) (i to : ℕ) (h : HasRow op l i to) (lt : i < to) where
@@ -66,6 +66,9 @@ module _ {ops : List ℕ} {i to : ℕ} (s : StepFits ops i to) where
 
   pub at-end : (kind W ≡ K.Return) ⊎ (kind W ≡ K.Trap) → Opens ops i to Ends
   at-end = elim [ inl k ↦ here returns (simp k) | inr k ↦ here trap (simp k) ]
+
+  pub at-call : kind W ≡ K.Call → Opens ops i to (Call (fieldA W))
+  at-call k = here (calls (fieldA W)) (simp k)
 
   pub at-plain : (kind W ≡ K.If → ⊥) → (kind W ≡ K.Loop → ⊥) → (kind W ≡ K.Break → ⊥) → (kind W ≡ K.BreakIf → ⊥)
       → (kind W ≡ K.Return → ⊥) → (kind W ≡ K.Trap → ⊥) → Opens ops i to Plain

@@ -7,11 +7,11 @@ use lib.Dec.{eqb}
 use lib.ListN.{length}
 use Rattle.rules.specs.Kinds as K
 use Rattle.rules.specs.Limits.{mostWords}
-use Rattle.rules.specs.Ops.{kind, opAt}
+use Rattle.rules.specs.Ops.{kind, fieldA, opAt}
 use Rattle.rules.specs.Rows.{Row, step, stop, leave, leaveIf, ifThen, ifElse, loop}
 use Rattle.rows.specs.Tree.{HasRow, treeOf}
 use Rattle.rows.specs.declared.block.Block.{Block}
-use Rattle.rows.specs.declared.block.Block.the-variants.{Plain, Ends, Break, BreakIf, If, IfElse, Loop}
+use Rattle.rows.specs.declared.block.Block.the-variants.{Plain, Call, Ends, Break, BreakIf, If, IfElse, Loop}
 
 module _ (op : ℕ → ℕ) (l : Bool) (i to : ℕ) where
   -- one op, and the rest
@@ -57,12 +57,24 @@ module _ (op : ℕ → ℕ) (l : Bool) (i to : ℕ) where
 -- the row that ends at `to`, opened as the code tells it
 abbrev pub Opens : List ℕ → ℕ → ℕ → Block → Type 0
 Opens ops i to Plain = Behind (opAt ops) true i to step
+Opens ops i to (Call k) = Behind (opAt ops) true i to step
 Opens ops i to Ends = Behind (opAt ops) true i to stop
 Opens ops i to Break = BreakAt (opAt ops) true i to leave
 Opens ops i to BreakIf = BreakAt (opAt ops) true i to leaveIf
 Opens ops i to (If t) = IfAt (opAt ops) true i to t
 Opens ops i to (IfElse e f) = ElseAt (opAt ops) true i to e f
 Opens ops i to (Loop e) = LoopAt (opAt ops) true i to e
+
+-- a word is a Call of this chunk, or it is no Call
+abbrev pub Calls : ℕ → Block → Type 0
+Calls w Plain = kind w ≡ K.Call → ⊥
+Calls w (Call k) = (kind w ≡ K.Call) × (fieldA w ≡ k)
+Calls w Ends = kind w ≡ K.Call → ⊥
+Calls w Break = kind w ≡ K.Call → ⊥
+Calls w BreakIf = kind w ≡ K.Call → ⊥
+Calls w (If t) = kind w ≡ K.Call → ⊥
+Calls w (IfElse e f) = kind w ≡ K.Call → ⊥
+Calls w (Loop e) = kind w ≡ K.Call → ⊥
 
 -- a row stands from i up to `to`, inside the ops
 pub record RowFits (ops : List ℕ) (i to : ℕ) : Type 0 where

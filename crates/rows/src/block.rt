@@ -2,11 +2,13 @@
 use words::fields;
 use words::kinds;
 ghost use Prim.Native.Nat.{ℕ};
-ghost use Rattle.rows.specs.Opens.{Opens, StepFits};
+ghost use lib.ListN.{getD};
+ghost use Rattle.rows.specs.Opens.{Opens, Calls, StepFits};
 
-// An op that is passed over, one that ends the row, a break, or a block by the positions of its ends.
+// An op that is passed over, a Call by its callee, one that ends the row, a break, or a block by the positions of its ends.
 pub enum Block {
     Plain,
+    Call(usize),
     Ends,
     Break,
     BreakIf,
@@ -21,7 +23,8 @@ pub enum Block {
 // The op at i of a row, wherever the row ends.
 pub fn block_at(ops: &[u32], i: usize) -> Block
     requires { ⌜ ((to : ℕ) × StepFits (now ops) i to) ⌝ }
-    ensures { λ r. ⌜ ((to : ℕ) → StepFits (now (ops .entry)) i to → Opens (now (ops .entry)) i to r) ⌝ }
+    ensures opens { λ r. ⌜ ((to : ℕ) → StepFits (now (ops .entry)) i to → Opens (now (ops .entry)) i to r) ⌝ }
+    ensures calls { λ r. ⌜ Calls (getD (now (ops .entry)) i 0) r ⌝ }
 {
     let w = ops[i];
     let k = w / fields::KIND_UNIT;
@@ -34,6 +37,9 @@ pub fn block_at(ops: &[u32], i: usize) -> Block
             return Block::IfElse(e, f);
         }
         return Block::If(t);
+    }
+    if k == kinds::CALL {
+        return Block::Call(t);
     }
     if k == kinds::LOOP {
         let end = t - 1;

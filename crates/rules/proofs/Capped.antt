@@ -2,6 +2,7 @@
 -- Assumes nothing.
 use mathlib.Core.Path.{_≡_, refl, ap, _∙_}
 use mathlib.Core.Bool.{Bool, true, false, _&&_}
+use mathlib.Core.List.{List}
 use Prim.Native.Nat.{ℕ, zero, suc, _+_, _*_, min, max}
 use native.Mathlib.Nat.{mul-zero, mul-suc}
 use native.Mathlib.Omega.{arith}
@@ -131,7 +132,12 @@ module _ (cap : ℕ) (charge count : ℕ → Result ℕ) where
       rw (cap-sum cap cost c) (passes-capped (body .ends) i e body (cost + c) br _ _ (λ k x. walk-capped r left k x))))
 
 -- the figure of a chunk that stops at a cap is the exact one, cut at the end
-pub chunk-capped : (cap : ℕ) (c : Chunk) (r : Row) → cappedCost cap c r ≡ capResult cap (exactCost c r)
-chunk-capped cap c r =
+pub chunk-capped : (cap : ℕ) (c : Chunk) (wholes : List ℕ) (r : Row) → cappedCost cap c wholes r ≡ capResult cap (exactCost c wholes r)
+chunk-capped cap c wholes r =
     let z : min cap 0 ≡ 0 = omega arith in
-    rw z at (walk-capped cap (chargeOf c) (countOf c) r deepest 0 unbroken)
+    rw z at (walk-capped cap (chargeOf c wholes) (countOf c) r deepest 0 unbroken)
+
+-- a capped answer comes from an exact one, of which it is the lesser with the cap
+pub capped-from : (cap : ℕ) (r : Result Cost) (k : Cost) → capResult cap r ≡ ok k → (e : Cost) × (r ≡ ok e) × (k .cycles ≡ min cap (e .cycles))
+capped-from cap (ok e) k h = (e, refl, cc)
+capped-from cap (no n p) k h = absurd (let z : _≡_ {A = ℕ} 0 1 = cc in omega arith)

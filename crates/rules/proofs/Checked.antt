@@ -1,4 +1,4 @@
--- The cases of specs/Cases, each list as one checked list. Assumes nothing.
+-- The cases of specs/Cases and specs/CalleeCases, each list as one checked list. Assumes nothing.
 use mathlib.Core.Path.{refl}
 use mathlib.Core.List.{flatMap}
 use Rattle.rules.specs.Ops.{inGroups}
@@ -11,6 +11,7 @@ use Rattle.rules.specs.Order.{member, calleesIn, visitEach, visit, upFro
 use Rattle.rules.specs.Sheet.{linesIn}
 use Rattle.rules.specs.Text.{wordsOf, digits, linesText}
 use Rattle.rules.specs.Cases.{AllHold, documented, settled, bytesIn}
+use Rattle.rules.specs.CalleeCases.{shared}
 
 -- document 01's P cases
 pub documented-hold : AllHold documented
@@ -21,3 +22,8 @@ documented-hold = (refl, (refl, (refl, (refl, (refl, (refl, (refl, (refl, (refl,
 pub settled-hold : AllHold settled
 unfolding flatMap inGroups brokenAt takeWhile dropWhile constantsOf extrasOf chunksOf parse firstOf firstBackward lastSet arrayLength neverSets rowCost rowHeight member calleesIn visitEach visit upFrom linesIn wordsOf digits linesText bytesIn
 settled-hold = (refl, (refl, (refl, (refl, (refl, (refl, (refl, (refl, (refl, (refl, (refl, (refl, (refl, (refl, (refl, (refl, (refl, (refl, (refl, (refl, tt))))))))))))))))))))
+
+-- charged callees
+pub shared-hold : AllHold shared
+unfolding flatMap inGroups brokenAt takeWhile dropWhile constantsOf extrasOf chunksOf parse firstOf firstBackward lastSet arrayLength neverSets rowCost rowHeight member calleesIn visitEach visit upFrom linesIn wordsOf digits linesText bytesIn
+shared-hold = (refl, (refl, (refl, (refl, (refl, (refl, (refl, (refl, (refl, (refl, (refl, (refl, (refl, (refl, tt))))))))))))))

@@ -30,6 +30,10 @@ pub mod Reach
 pub mod Safe
 pub mod RowSafe
 pub mod CyclesBound
+pub mod Below
+pub mod Callees
+pub mod RestStays
+pub mod WholeBound
 pub mod Demand
 pub mod Witness
 pub mod CalleeWitness

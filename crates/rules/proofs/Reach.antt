@@ -55,7 +55,7 @@ module _ (cs : List Chunk) (c : ℕ) where
 
     plain-reach : (i t : ℕ) (ts : List ℕ) → Plain (shapeOf (opIn cs c i)) → Inside cs c i (suc i) → ReachAt (suc i) (t ∷ ts) → ReachAt i (t ∷ ts)
     plain-reach i t ts p h next =
-        op-reach (shapeOf (opIn cs c i)) i t ts on refl h (λ d b es k. rw (plain-goes cs (shapeOf (opIn cs c i)) p (placed c i d b es) on) (next _ _ es k))
+        op-reach (shapeOf (opIn cs c i)) i t ts on refl h (λ d b es k. rw (plain-goes cs (shapeOf (opIn cs c i)) p (placed c i d b es) [] on) (next _ _ es k))
 
     -- behind a BreakIf that is not taken, and out of the innermost loop
     passes : (i t : ℕ) (ts : List ℕ) → ReachAt (suc i) (t ∷ ts) → (d b : ℤ) (es : List Entry) → Targets es (t ∷ ts)

@@ -19,14 +19,14 @@ use Rattle.rules.proofs.Walked.{Broken, Within, note-broken, still-brok
 use Rattle.rules.proofs.Header.{next2, next3, next4, next5, Tested, header-tested, headerFee, behind-header}
 use Rattle.rules.proofs.Moves.{placed, opIn, Inside}
 use Rattle.rules.proofs.Reach.{can-reach}
-use Rattle.rules.proofs.Safe.{Charged, SafeAt, Leaves, safe-more, leaves-more, unkept-safe, op-safe, plain-safe, ending-safe, if-safe, break-safe, test-safe}
+use Rattle.rules.proofs.Safe.{Called, SafeAt, Leaves, safe-more, leaves-more, unkept-safe, op-safe, plain-safe, ending-safe, if-safe, break-safe, test-safe}
 
 within-cost : (a : ℕ) (b : Breaks) → Within (costliest a) b → a ≤ breakCost b
 within-cost a unbroken h = absurd h
 within-cost a (costliest b) h = h
 
-module _ {cs : List Chunk} {price : Frame → ℕ} {Kept : Frame → Type 0} {c : ℕ} {fee : ℕ → ℕ} {Counted : ℕ → ℕ → Type 0}
-    (given : Charged cs price Kept c fee Counted) where
+module _ {cs : List Chunk} {run : Bool} {cap : ℕ} {price : Frame → ℕ} {Kept : Frame → Type 0} {c : ℕ} {fee : ℕ → ℕ} {Counted : ℕ → ℕ → Type 0}
+    (given : Called cs run cap price Kept c fee Counted) where
   -- no BreakIf from i on is the header test of the innermost loop
   abbrev Past : List Entry → ℕ → Type 0
   Past [] i = Unit {0}
@@ -168,12 +168,12 @@ module _ {cs : List Chunk} {price : Frame → ℕ} {Kept : Frame → Type 0} {c 
         passes-safe : (count : ℕ) → Counted i count → body .ends ≡ false → (m p : ℕ) → count ≤ p + m
             → (d : ℤ) → SafeAt given (suc i) (entry d p ∷ es) ((body .cycles + fee e) * m + breakCost (body .breaks) + z)
         passes-safe count counted on zero p le d =
-            let reach = can-reach cs c fee Counted (given .header) i e q body (w .1) (omega arith) (w .2) (w .5) v on in
+            let reach = can-reach cs c fee Counted (given .rules .header) i e q body (w .1) (omega arith) (w .2) (w .5) v on in
             let spare = breakCost (body .breaks) - headerFee fee i + z in
             let g = within-cost (headerFee fee i) (body .breaks) (spent-there .1) in
             through-header d p spare _ (omega (arith, mul-zero (body .cycles + fee e))) (omega arith)
             (unkept-safe given (next5 i) (entry d (suc p) ∷ es) spare
-            (λ x y kept. omega (arith, given .limit (next5 i) x y (entry d (suc p)) es count kept reach counted)))
+            (λ x y kept. omega (arith, given .rules .limit (next5 i) x y (entry d (suc p)) es count kept reach counted)))
         passes-safe count counted on (suc m) p le d =
             let later = (body .cycles + fee e) * m + breakCost (body .breaks) + z in
             let again = passes-safe count counted on m (suc p) (omega arith) d in
@@ -233,7 +233,7 @@ module _ {cs : List Chunk} {price : Frame → ℕ} {Kept : Frame → Type 0} {c 
             let g = grows fee Counted r spent br k u .0 in
             let z = k .cycles + x - spent in
             enters ((body .cycles + fee e) * count + breakCost (body .breaks) + z) (omega (arith, same))
-            (passes-safe l i to j e q r n h w body v es z (λ m. rest spent u) (given .header i count (rw (w .0) at counted)) count (rw (w .0) at counted) on count 0
+            (passes-safe l i to j e q r n h w body v es z (λ m. rest spent u) (given .rules .header i count (rw (w .0) at counted)) count (rw (w .0) at counted) on count 0
             (omega arith))
 
   end-safe : (f : ℕ) → RowSafe f end

@@ -15,7 +15,7 @@ use Rattle.rules.specs.Limits.{cycleCap}
 use Rattle.rules.specs.Cycles.{Cost, cappedCost}
 use Rattle.rules.specs.Stack.{Stack, rowStack}
 use Rattle.rules.specs.Order.{Listing, listed, ring, callOrder, chunkAt, member, Calls, Distinct}
-use Rattle.rules.specs.Sheet.{lineWidth, Line, lineOf, chunkLine, noLine, bytesList, linesIn, Sheet, sheetOf, ringOutcome}
+use Rattle.rules.specs.Sheet.{lineWidth, Line, lineOf, chunkLine, noLine, bytesList, wholeList, linesIn, Sheet, sheetOf, ringOutcome}
 use Rattle.rules.specs.Claims.{Accepted}
 use Rattle.rules.proofs.Answers.{from-ok, from-answer, from-chunk}
 use Rattle.rules.proofs.Members.{In, none, apart, not-nil, in-cons, in-head, in-tail, in-behind}
@@ -26,16 +26,20 @@ pub record LineOf (cs : List Chunk) (lines : List Line) (c : ℕ) : Type 0 where
   pub row : Row
   pub is-row : chunkRow (chunkAt cs c) ≡ ok row
   pub cost : Cost
-  pub walked : cappedCost cycleCap (chunkAt cs c) row ≡ ok cost
+  pub walked : cappedCost cycleCap (chunkAt cs c) [] row ≡ ok cost
+  pub wholes : List ℕ
+  pub full : Cost
+  pub charged : cappedCost cycleCap (chunkAt cs c) wholes row ≡ ok full
   pub callees : List ℕ
   pub stack : Stack
   pub climbed : rowStack (chunkAt cs c) callees row ≡ ok stack
-  pub line : getD lines c noLine ≡ lineOf cost stack
+  pub line : getD lines c noLine ≡ lineOf cost full stack
   pub known : (k : ℕ) → Calls cs c k → getD callees k 0 ≡ getD lines k noLine .bytes
   pub outside : (k : ℕ) → length cs ≤ k → getD callees k 0 ≡ 0
+  pub known-whole : (k : ℕ) → Calls cs c k → getD wholes k 0 ≡ getD lines k noLine .whole
 
 -- a member's place in a list
-split : (c : ℕ) (xs : List ℕ) → In c xs → (ys : List ℕ) × (zs : List ℕ) × (xs ≡ ys ++ (c ∷ zs))
+pub split : (c : ℕ) (xs : List ℕ) → In c xs → (ys : List ℕ) × (zs : List ℕ) × (xs ≡ ys ++ (c ∷ zs))
 split c [] h = absurd (not-nil c h)
 split c (x ∷ xs) h =
     ⊎-elim (λ e. ([], xs, cc)) (λ m. let s = split c xs m in (x ∷ s .0, s .1, ap (λ (l : List ℕ). x ∷ l) (s .2))) (in-cons c x xs h)
@@ -53,11 +57,11 @@ distinct-behind (x ∷ xs) ys d = distinct-behind xs ys (d .1)
 module _ (cs : List Chunk) (final : List Line) where
   -- the first chunk's line, and the lines behind it
   first-line : (c : ℕ) (order : List ℕ) (lines : List Line) → linesIn (c ∷ order) cs lines ≡ answer final
-      → (l : Line) × (chunkLine (chunkAt cs c) (bytesList lines) ≡ ok l) × (linesIn order cs (set lines c l) ≡ answer final)
+      → (l : Line) × (chunkLine (chunkAt cs c) (bytesList lines) (wholeList lines) ≡ ok l) × (linesIn order cs (set lines c l) ≡ answer final)
   unfolding linesIn
   first-line c order lines e =
-      let a = from-answer (inChunk c (chunkLine (chunkAt cs c) (bytesList lines))) (λ l. linesIn order cs (set lines c l)) e in
-      (a .0, from-chunk c (chunkLine (chunkAt cs c) (bytesList lines)) (a .1), a .2)
+      let a = from-answer (inChunk c (chunkLine (chunkAt cs c) (bytesList lines) (wholeList lines))) (λ l. linesIn order cs (set lines c l)) e in
+      (a .0, from-chunk c (chunkLine (chunkAt cs c) (bytesList lines) (wholeList lines)) (a .1), a .2)
 
   -- the lines when the first chunks of an order are done
   lines-between : (xs ys : List ℕ) (lines : List Line) → linesIn (xs ++ ys) cs lines ≡ answer final
@@ -80,7 +84,7 @@ module _ (cs : List Chunk) (final : List Line) where
 
   -- so each chunk's line was worked out over lines that are final for the chunks before it
   line-final : (xs ys : List ℕ) (c : ℕ) (lines : List Line) → Distinct (xs ++ (c ∷ ys)) → c < length lines → linesIn (xs ++ (c ∷ ys)) cs lines ≡ answer final
-      → (mid : List Line) × (length mid ≡ length lines) × (chunkLine (chunkAt cs c) (bytesList mid) ≡ ok (getD final c noLine))
+      → (mid : List Line) × (length mid ≡ length lines) × (chunkLine (chunkAt cs c) (bytesList mid) (wholeList mid) ≡ ok (getD final c noLine))
       × ((k : ℕ) → In k xs → getD mid k noLine ≡ getD final k noLine)
   line-final xs ys c lines d lt e =
       let a = lines-between xs (c ∷ ys) lines e in
@@ -90,17 +94,21 @@ module _ (cs : List Chunk) (final : List Line) where
       (a .0, a .1, rw here (b .1), λ k h. sym (line-kept (c ∷ ys) (a .0) k (a .2) (once-only xs (c ∷ ys) d k h)))
 
 -- the steps of a chunk's line
-line-parts : (cs : List Chunk) (lines mid : List Line) (c : ℕ) → length mid ≡ length cs → chunkLine (chunkAt cs c) (bytesList mid) ≡ ok (getD lines c noLine)
+line-parts : (cs : List Chunk) (lines mid : List Line) (c : ℕ) → length mid ≡ length cs → chunkLine (chunkAt cs c) (bytesList mid) (wholeList mid) ≡ ok (getD lines c noLine)
     → ((k : ℕ) → Calls cs c k → getD mid k noLine ≡ getD lines k noLine) → LineOf cs lines c
 line-parts cs lines mid c size e same =
     let a = from-ok (chunkRow (chunkAt cs c)) _ e in
-    let b = from-ok (cappedCost cycleCap (chunkAt cs c) (a .0)) _ (a .2) in
-    let s = from-ok (rowStack (chunkAt cs c) (bytesList mid) (a .0)) _ (b .2) in
+    let b = from-ok (cappedCost cycleCap (chunkAt cs c) [] (a .0)) _ (a .2) in
+    let w = from-ok (cappedCost cycleCap (chunkAt cs c) (wholeList mid) (a .0)) _ (b .2) in
+    let s = from-ok (rowStack (chunkAt cs c) (bytesList mid) (a .0)) _ (w .2) in
     record {
       row = a .0;
       is-row = a .1;
       cost = b .0;
       walked = b .1;
+      wholes = wholeList mid;
+      full = w .0;
+      charged = w .1;
       callees = bytesList mid;
       stack = s .0;
       climbed = s .1;
@@ -108,6 +116,7 @@ line-parts cs lines mid c size e same =
       known = λ k calls. List·getD-map (λ (l : Line). l .bytes) mid k noLine ∙ ap (λ (l : Line). l .bytes) (same k calls);
       outside = λ k h. List·getD-map (λ (l : Line). l .bytes) mid k noLine
           ∙ ap (λ (l : Line). l .bytes) (List·getD-eq-default mid noLine (omega arith));
+      known-whole = λ k calls. List·getD-map (λ (l : Line). l .whole) mid k noLine ∙ ap (λ (l : Line). l .whole) (same k calls);
     }
 
 pub from-listing : (p : Listing) {order : List ℕ} → ringOutcome p ≡ answer order → p ≡ listed order

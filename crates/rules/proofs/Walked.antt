@@ -1,6 +1,7 @@
 -- The uncapped cycle walk as a relation: what the walk answers is so related, and only grows along a row. Assumes nothing.
 use mathlib.Core.Path.{_≡_, refl}
 use mathlib.Core.Bool.{Bool, true, false, _&&_}
+use mathlib.Core.List.{List}
 use Prim.Native.Nat.{ℕ, zero, suc, _+_, _-_, _*_, _≤_, max}
 use native.Mathlib.Omega.{arith}
 use lib.Dec.{eqb}
@@ -12,7 +13,7 @@ use Rattle.rules.specs.Count.{hasHeader, hasTail, countAt, countIf, orNo
 use Rattle.rules.specs.Rows.{Row, end, step, stop, leave, leaveIf, ifThen, ifElse, loop}
 use Rattle.rules.specs.Cycles.{Breaks, unbroken, costliest, noteBreak, breakCost, Cost, costs, inner, unlessEnds, onePass, passesCost, rowCost}
 use Rattle.rules.specs.Limits.{deepest}
-use Rattle.rules.specs.Cycles.{textCharge, chargeOf, exactCost}
+use Rattle.rules.specs.Cycles.{textCharge, calleeWhole, chargeOf, exactCost}
 
 -- some break was met
 abbrev pub Broken : Breaks → Type 0
@@ -185,16 +186,16 @@ module _ (fee : ℕ → ℕ) (Counted : ℕ → ℕ → Type 0) (charge count : 
       (body, walked b l 0 unbroken body a, after-loop k _ _ (λ c x v. walked r left c x k v) (body .ends) i e body _ br g)) (charged i _ k h)
 
 -- For a chunk: what an op costs, and that a loop has its header test and a count.
-abbrev pub feeOf : Chunk → ℕ → ℕ
-feeOf c i = figuresOf (opAt (c .ops) i) .cycles + extraAt (c .extras) i
+abbrev pub feeOf : Chunk → List ℕ → ℕ → ℕ
+feeOf c wholes i = figuresOf (opAt (c .ops) i) .cycles + extraAt (c .extras) i + calleeWhole wholes (opAt (c .ops) i)
 
 abbrev pub CountedIn : Chunk → ℕ → ℕ → Type 0
 CountedIn c p n = (hasHeader (c .ops) p ≡ true) × (countAt (c .constants) (c .ops) p ≡ found n)
 
-chunk-paid : (c : Chunk) (i n : ℕ) → chargeOf c i ≡ ok n → n ≡ feeOf c i
-chunk-paid c i n h = go (eqb (extraAt (c .extras) i) 4294967295) h
+chunk-paid : (c : Chunk) (wholes : List ℕ) (i n : ℕ) → chargeOf c wholes i ≡ ok n → n ≡ feeOf c wholes i
+chunk-paid c wholes i n h = go (eqb (extraAt (c .extras) i) 4294967295) h
   where
-    go : (b : Bool) → textCharge b i (feeOf c i) ≡ ok n → n ≡ feeOf c i
+    go : (b : Bool) → textCharge b i (feeOf c wholes i) ≡ ok n → n ≡ feeOf c wholes i
     go true h = absurd (let z : _≡_ {A = ℕ} 0 1 = cc in omega arith)
     go false h = cc
 
@@ -213,5 +214,6 @@ chunk-counted c p n h =
     tested v e true b h = refl
     tested v e false b h = absurd (let z : _≡_ {A = ℕ} 0 1 = cc in omega arith)
 
-pub chunk-walked : (c : Chunk) (r : Row) (k : Cost) → exactCost c r ≡ ok k → Walked (feeOf c) (CountedIn c) r 0 unbroken k
-chunk-walked c r k h = walked (feeOf c) (CountedIn c) (chargeOf c) (countOf c) (chunk-paid c) (chunk-counted c) r deepest 0 unbroken k h
+pub chunk-walked : (c : Chunk) (wholes : List ℕ) (r : Row) (k : Cost) → exactCost c wholes r ≡ ok k → Walked (feeOf c wholes) (CountedIn c) r 0 unbroken k
+chunk-walked c wholes r k h =
+    walked (feeOf c wholes) (CountedIn c) (chargeOf c wholes) (countOf c) (chunk-paid c wholes) (chunk-counted c) r deepest 0 unbroken k h

@@ -52,9 +52,9 @@ unfoldable pub bytesIn : List ℕ → List ℕ
 bytesIn [] = []
 bytesIn (w ∷ ws) = w % 256 ∷ w / 256 % 256 ∷ w / 65536 % 256 ∷ w / 16777216 ∷ bytesIn ws
 
--- the sheet of a module of one chunk
+-- the sheet of a module of one chunk, whose cycles are its whole figure: it calls no chunk of the module
 abbrev pub one : ℕ → ℕ → ℕ → Outcome Sheet
-one c p b = answer (record { order = 0 ∷ []; lines = record { cycles = c; peak = p; bytes = b } ∷ [] })
+one c p b = answer (record { order = 0 ∷ []; lines = record { cycles = c; peak = p; bytes = b; whole = c } ∷ [] })
 
 abbrev pub L : ℤ → Outcome Sheet
 L stop = sheetOutcome (alone (chunkL (pos 0) stop (pos 1))) lineWidth
@@ -88,7 +88,7 @@ stack p d b = answer (record { peak = p; delta = d; bytes = b })
 abbrev pub sheet : Chunk → Outcome Sheet
 sheet c = sheetOutcome (alone c) lineWidth
 
--- The cases marked P, in the order of document 01.
+-- The cases marked P, in the order of document 01. The first is 2.1's: "L's line becomes `0 48 3 160 48`".
 abbrev pub documented : List Case
 documented =
     record {
@@ -101,11 +101,12 @@ documented =
           ∷ 1 ∷ 0 ∷ 0 ∷ 1 ∷ 0 ∷ 0 ∷ 0 ∷ 19 ∷ 15 ∷ 0 ∷ 0 ∷ 27 ∷ 0 ∷ 0 ∷ 0 ∷ 1 ∷ 2 ∷ 0 ∷ 0 ∷ 0
           ∷ 0 ∷ 0 ∷ 0 ∷ 51 ∷ 0 ∷ 0 ∷ 2 ∷ 58 ∷ 0 ∷ 0 ∷ 0 ∷ 2 ∷ 5 ∷ 0 ∷ 0 ∷ 25 ∷ 0 ∷ 0 ∷ 0 ∷ 31 ∷ [])
           ≡ 99 ∷ 104 ∷ 117 ∷ 110 ∷ 107 ∷ 32 ∷ 99 ∷ 121 ∷ 99 ∷ 108 ∷ 101 ∷ 115 ∷ 32 ∷ 112 ∷ 101 ∷ 97 ∷ 107 ∷ 32
-          ∷ 98 ∷ 121 ∷ 116 ∷ 101 ∷ 115 ∷ 10 ∷ 48 ∷ 32 ∷ 52 ∷ 56 ∷ 32 ∷ 51 ∷ 32 ∷ 49 ∷ 54 ∷ 48 ∷ 10 ∷ [];
+          ∷ 98 ∷ 121 ∷ 116 ∷ 101 ∷ 115 ∷ 32 ∷ 119 ∷ 104 ∷ 111 ∷ 108 ∷ 101 ∷ 10
+          ∷ 48 ∷ 32 ∷ 52 ∷ 56 ∷ 32 ∷ 51 ∷ 32 ∷ 49 ∷ 54 ∷ 48 ∷ 32 ∷ 52 ∷ 56 ∷ 10 ∷ [];
     }
     ∷ record {
       name = "L alone as a module: the text";
-      claim = sheetText (bytesIn (alone (chunkL (pos 0) (pos 3) (pos 1)))) ≡ textOf "chunk cycles peak bytes\n0 48 3 160\n";
+      claim = sheetText (bytesIn (alone (chunkL (pos 0) (pos 3) (pos 1)))) ≡ textOf "chunk cycles peak bytes whole\n0 48 3 160 48\n";
     }
     ∷ record { name = "constant 1 made 0: 12 cycles"; claim = L (pos 0) ≡ one 12 3 160 }
     ∷ record { name = "made -1 (end below start): 12"; claim = L (negsuc 0) ≡ one 12 3 160 }
@@ -204,6 +205,6 @@ settled =
     ∷ record {
       name = "two chunks in call order: Call 1 and Yield";
       claim = sheetText (bytesIn (moduleWords (caller (op K.Call 1 ∷ []) ∷ caller (op K.Yield 0 ∷ []) ∷ [])))
-          ≡ textOf "chunk cycles peak bytes\n1 1 0 0\n0 10 1 32\n";
+          ≡ textOf "chunk cycles peak bytes whole\n1 1 0 0 1\n0 10 1 32 11\n";
     }
     ∷ []

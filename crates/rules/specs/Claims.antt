@@ -1,4 +1,4 @@
--- Demand 3 as types: what a sheet's lines say of every path. proofs/Demand and proofs/StackBound have the proofs.
+-- Demand 3 as types: what a sheet's lines say of every path. proofs/Demand, proofs/WholeBound and proofs/StackBound have the proofs.
 use mathlib.Core.Path.{_≡_}
 use mathlib.Core.Bool.{true, false}
 use mathlib.Core.List.{List}
@@ -25,6 +25,14 @@ CyclesBounded =
     (words : List ℕ) (room : ℕ) (cs : List Chunk) (s : Sheet) → Accepted words room cs s → (c : ℕ) → c < length cs
     → (ways : List Way) → KeepsCounts cs false (begin cs c) ways
     → min cycleCap (pathCycles cs (path cs false (begin cs c) ways)) ≤ lineAt s c .cycles
+
+-- 2.1: "The bound on paths is to hold for this field with callees run, under the same loop conditions." The cycles of a path that runs its callees,
+-- their ops counted too, up to the cap: for every path that keeps to the counts of the loops in the chunk and in every callee run.
+abbrev pub WholeBounded : Type 0
+WholeBounded =
+    (words : List ℕ) (room : ℕ) (cs : List Chunk) (s : Sheet) → Accepted words room cs s → (c : ℕ) → c < length cs
+    → (ways : List Way) → KeepsCounts cs true (begin cs c) ways
+    → min cycleCap (pathCycles cs (path cs true (begin cs c) ways)) ≤ lineAt s c .whole
 
 -- The stack bytes of a path that runs its callees are at most its sheet's: for every path whose whole passes and breaks leave no more than the
 -- depth at their entry.

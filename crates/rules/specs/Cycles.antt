@@ -1,11 +1,14 @@
 -- "Cycles (`wcet_region`, clamp off)": the cycle walk over the tree of a row, for any charge and any count.
-use mathlib.Core.Bool.{Bool, true, false, _&&_}
+use mathlib.Core.Bool.{Bool, true, false, cond, _&&_}
+use mathlib.Core.List.{List, []}
 use Prim.Native.Nat.{ℕ, zero, suc, _+_, _*_, min, max}
 use lib.Dec.{eqb}
+use lib.ListN.{getD}
+use Rattle.rules.specs.Kinds as K
 use Rattle.rules.specs.Limits.{deepest, cycleCap, openText}
 use Rattle.rules.specs.Numbers as N
 use Rattle.rules.specs.Outcome.{Result, ok, no, andThen}
-use Rattle.rules.specs.Ops.{figuresOf, opAt}
+use Rattle.rules.specs.Ops.{kind, fieldA, figuresOf, opAt}
 use Rattle.rules.specs.Form.{Chunk}
 use Rattle.rules.specs.Reading.{extraAt}
 use Rattle.rules.specs.Rows.{Row, end, step, stop, leave, leaveIf, ifThen, ifElse, loop, chunkRow}
@@ -99,17 +102,23 @@ abbrev pub textCharge : Bool → ℕ → ℕ → Result ℕ
 textCharge true i c = no N.openText i
 textCharge false i c = ok c
 
--- "charge is cycles plus extra"
-abbrev pub chargeOf : Chunk → ℕ → Result ℕ
-chargeOf c i =
-    textCharge (eqb (extraAt (c .extras) i) openText) i (figuresOf (opAt (c .ops) i) .cycles + extraAt (c .extras) i)
+-- 2.1: "each Call also charged the callee's whole figure", from a list by chunk index. "A callee outside the module adds 0": so does any past the
+-- list's end. For the cycles alone the list is empty.
+abbrev pub calleeWhole : List ℕ → ℕ → ℕ
+calleeWhole wholes w = cond (eqb (kind w) K.Call) (getD wholes (fieldA w) 0) 0
 
--- the uncapped figure, and the one that stops at a cap
-abbrev pub exactCost : Chunk → Row → Result Cost
-exactCost c r = rowCost (λ n. n) (chargeOf c) (countOf c) r deepest 0 unbroken
+-- "charge is cycles plus extra", and what a callee adds. 2.1: "A callee figure at the cap is no open text": the extra alone is asked.
+abbrev pub chargeOf : Chunk → List ℕ → ℕ → Result ℕ
+chargeOf c wholes i =
+    textCharge (eqb (extraAt (c .extras) i) openText) i
+    (figuresOf (opAt (c .ops) i) .cycles + extraAt (c .extras) i + calleeWhole wholes (opAt (c .ops) i))
 
-abbrev pub cappedCost : ℕ → Chunk → Row → Result Cost
-cappedCost cap c r = rowCost (min cap) (chargeOf c) (countOf c) r deepest 0 unbroken
+-- the uncapped figure, and the one that stops at a cap, over the whole figures of the callees
+abbrev pub exactCost : Chunk → List ℕ → Row → Result Cost
+exactCost c wholes r = rowCost (λ n. n) (chargeOf c wholes) (countOf c) r deepest 0 unbroken
+
+abbrev pub cappedCost : ℕ → Chunk → List ℕ → Row → Result Cost
+cappedCost cap c wholes r = rowCost (min cap) (chargeOf c wholes) (countOf c) r deepest 0 unbroken
 
 -- the answer of the cycle walk: the cycles, and whether the row ends. No break leads out of a range, so none is left to tell.
 pub record Cycles : Type 0 where
@@ -121,4 +130,4 @@ cyclesOf k = record { cycles = k .cycles; ends = k .ends }
 
 -- the cycle walk of a chunk: 3, 4, 5, 6, then 7, 8, 9 as the walk meets them
 abbrev pub chunkCycles : Chunk → Result Cycles
-chunkCycles c = andThen (chunkRow c) (λ r. andThen (cappedCost cycleCap c r) (λ k. ok (cyclesOf k)))
+chunkCycles c = andThen (chunkRow c) (λ r. andThen (cappedCost cycleCap c [] r) (λ k. ok (cyclesOf k)))

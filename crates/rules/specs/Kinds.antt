@@ -14,6 +14,9 @@ SetLocal = 2
 abbrev pub GetData : ℕ
 GetData = 3
 
+abbrev pub SetDataIndexed : ℕ
+SetDataIndexed = 6
+
 abbrev pub CmpGe : ℕ
 CmpGe = 19
 

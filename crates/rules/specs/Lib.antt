@@ -13,5 +13,6 @@ pub mod Order
 pub mod Sheet
 pub mod Text
 pub mod Cases
+pub mod CalleeCases
 pub mod Paths
 pub mod Claims

@@ -61,33 +61,39 @@ abbrev pub orderTray : Outcome (List ℕ) → List ℕ → List ℕ
 orderTray (answer order) tray = order ++ drop (length order) tray
 orderTray (refused n c p) tray = tray
 
--- a chunk's row of the sheet: cycles, peak in slots, stack bytes
+-- a chunk's row of the sheet: cycles, peak in slots, stack bytes, and 2.1's "fifth printed field, `whole`": the cycles with callees
 pub record Line : Type 0 where
   pub cycles : ℕ
   pub peak : ℕ
   pub bytes : ℕ
+  pub whole : ℕ
 
-abbrev pub lineOf : Cost → Stack → Line
-lineOf c s = record { cycles = c .cycles; peak = s .peak; bytes = s .bytes }
+abbrev pub lineOf : Cost → Cost → Stack → Line
+lineOf c w s = record { cycles = c .cycles; peak = s .peak; bytes = s .bytes; whole = w .cycles }
 
--- one chunk of a module: 3, 4, 5, 6, the cycle walk's 7 to 9, the stack walk's, 11
-abbrev pub chunkLine : Chunk → List ℕ → Result Line
-chunkLine c callees =
+-- one chunk of a module, over the stack bytes and the whole figures of its callees: 3, 4, 5, 6, the cycle walk's 7 to 9, the stack walk's, 11. The walk
+-- with callees charged refuses where the cycle walk does and nowhere else, and nothing else of the sheet changes (proofs/RestStays).
+abbrev pub chunkLine : Chunk → List ℕ → List ℕ → Result Line
+chunkLine c callees wholes =
     andThen (chunkRow c)
-    (λ r. andThen (cappedCost cycleCap c r) (λ k. andThen (rowStack c callees r) (λ s. ok (lineOf k s))))
+    (λ r. andThen (cappedCost cycleCap c [] r)
+    (λ k. andThen (cappedCost cycleCap c wholes r) (λ w. andThen (rowStack c callees r) (λ s. ok (lineOf k w s)))))
 
 abbrev pub noLine : Line
-noLine = record { cycles = 0; peak = 0; bytes = 0 }
+noLine = record { cycles = 0; peak = 0; bytes = 0; whole = 0 }
 
--- the stack bytes by chunk index, 0 for a chunk that has no line yet
+-- the stack bytes by chunk index, 0 for a chunk that has no line yet; and the whole figures
 abbrev pub bytesList : List Line → List ℕ
 bytesList lines = map (λ l. l .bytes) lines
 
--- "in a whole module chunk after chunk in call order": the lines by chunk index
+abbrev pub wholeList : List Line → List ℕ
+wholeList lines = map (λ l. l .whole) lines
+
+-- "in a whole module chunk after chunk in call order": the lines by chunk index. 2.1: "worked out in call order"
 unfoldable pub linesIn : List ℕ → List Chunk → List Line → Outcome (List Line)
 linesIn [] cs lines = answer lines
 linesIn (c ∷ order) cs lines =
-    followedBy (inChunk c (chunkLine (chunkAt cs c) (bytesList lines))) (λ l. linesIn order cs (set lines c l))
+    followedBy (inChunk c (chunkLine (chunkAt cs c) (bytesList lines) (wholeList lines))) (λ l. linesIn order cs (set lines c l))
 
 -- an accepted module's sheet: the call order, and the lines by chunk index
 pub record Sheet : Type 0 where
@@ -100,19 +106,23 @@ sheetOf cs =
     (λ order. followedBy (linesIn order cs (replicate (length cs) noLine))
     (λ lines. answer (record { order = order; lines = lines })))
 
--- "three for the sheet (cycles, peak, bytes, by chunk index)": the numbers of a line in the tray, how many they are, and room for 256 lines
+-- "(cycles, peak, bytes, by chunk index)", and 2.1: "The tray holds four numbers a chunk, `whole` last": the numbers of a line in the tray, how many
+-- they are, and room for 256 lines
 abbrev pub lineNumbers : Line → List ℕ
-lineNumbers l = l .cycles ∷ l .peak ∷ l .bytes ∷ []
+lineNumbers l = l .cycles ∷ l .peak ∷ l .bytes ∷ l .whole ∷ []
 
 abbrev pub lineWidth : ℕ
-lineWidth = 3
+lineWidth = 4
 
--- the places of the cycles and of the bytes among them
+-- the places of the cycles, of the bytes and of the whole figure among them
 abbrev pub cyclesPlace : ℕ
 cyclesPlace = 0
 
 abbrev pub bytesPlace : ℕ
 bytesPlace = 2
+
+abbrev pub wholePlace : ℕ
+wholePlace = 3
 
 abbrev pub sheetRoom : ℕ
 sheetRoom = mostChunks * lineWidth

@@ -45,17 +45,18 @@ textFrom (suc n) s i = code (charAt s i) ∷ textFrom n s (suc i)
 abbrev pub textOf : String → List ℕ
 textOf s = textFrom (len s) s 0
 
--- the first line that `sheet` prints
+-- the first line that `sheet` prints; 2.1's field is "named last in the heading too"
 abbrev pub heading : List ℕ
-heading = textOf "chunk cycles peak bytes\n"
+heading = textOf "chunk cycles peak bytes whole\n"
 
 abbrev pub refusedWord : List ℕ
 refusedWord = textOf "refused"
 
--- "Chunk index, cycles, peak in slots, stack bytes"
+-- "Chunk index, cycles, peak in slots, stack bytes", and 2.1's fifth field
 abbrev pub lineText : ℕ → Line → List ℕ
 lineText c l =
-    decimal c ++ (space ∷ decimal (l .cycles) ++ (space ∷ decimal (l .peak) ++ (space ∷ decimal (l .bytes) ++ (newline ∷ []))))
+    decimal c ++ (space ∷ decimal (l .cycles) ++ (space ∷ decimal (l .peak) ++ (space ∷ decimal (l .bytes)
+    ++ (space ∷ decimal (l .whole) ++ (newline ∷ [])))))
 
 -- the most bytes of a line: its chunk and its numbers, each of at most 10 digits and one byte behind them; and of a heading and 256 lines
 abbrev pub lineMost : ℕ

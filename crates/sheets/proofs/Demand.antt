@@ -10,12 +10,13 @@ use lib.Seq.{take-at}
 use Rattle.rules.specs.Outcome.{Outcome, answer, refused}
 use Rattle.rules.specs.Reading.{read}
 use Rattle.rules.specs.Limits.{cycleCap}
-use Rattle.rules.specs.Sheet.{noLine, Sheet, readModule, sheetOutcome, sheetTray, lineNumbers, lineWidth, cyclesPlace, bytesPlace, trayNumbers}
+use Rattle.rules.specs.Sheet.{noLine, Sheet, readModule, sheetOutcome, sheetTray, lineNumbers, lineWidth, cyclesPlace, bytesPlace, wholePlace, trayNumbers}
 use Rattle.rules.specs.Paths.{Way, begin, path, pathCycles, pathBytes, KeepsCounts, KeepsDepths}
 use Rattle.rules.specs.Claims.{Accepted}
 use Rattle.rules.proofs.Answers.{from-answer, from-chunk}
 use Rattle.rules.proofs.SheetLines.{accepted-sheet}
 use Rattle.rules.proofs.StackBound.{stack-bounded}
+use Rattle.rules.proofs.WholeBound.{whole-bounded}
 use Rattle.rules.proofs.Demand.{cycles-bounded}
 use Rattle.words.specs.Parts.{chunksIn}
 use Rattle.sheets.specs.declared.module.SheetAnswer.the-variants.{Lines}
@@ -49,6 +50,13 @@ module _ (ws tray : List ℕ) (s : Sheet) (answers : sheetOutcome ws (length tra
   tray-cycles keeps =
       rw (number cyclesPlace (omega arith)) (cycles-bounded ws (length tray) (chunksIn ws) s accepted c lt ways keeps)
 
+  -- and, callees run, where it keeps the counts of their loops too, at most the whole figure of its line
+  pub tray-whole : KeepsCounts (chunksIn ws) true (begin (chunksIn ws) c) ways
+      → min cycleCap (pathCycles (chunksIn ws) (path (chunksIn ws) true (begin (chunksIn ws) c) ways))
+      ≤ getD (sheetTray (answer s) tray) (lineWidth * c + wholePlace) 0
+  tray-whole keeps =
+      rw (number wholePlace (omega arith)) (whole-bounded ws (length tray) (chunksIn ws) s accepted c lt ways keeps)
+
   -- and its stack bytes, callees run, where it keeps its depths, at most the bytes of its line
   pub tray-bytes : KeepsDepths (chunksIn ws) true (begin (chunksIn ws) c) ways
       → pathBytes (chunksIn ws) c (path (chunksIn ws) true (begin (chunksIn ws) c) ways) ≤ getD (sheetTray (answer s) tray) (lineWidth * c + bytesPlace) 0
@@ -76,6 +84,11 @@ module _ (ws tray after : List ℕ) (n : ℕ) (answered : answerOutcome (Lines n
   pub call-cycles : KeepsCounts (chunksIn ws) false (begin (chunksIn ws) c) ways
       → min cycleCap (pathCycles (chunksIn ws) (path (chunksIn ws) false (begin (chunksIn ws) c) ways)) ≤ getD after (lineWidth * c + cyclesPlace) 0
   call-cycles keeps = rw left (tray-cycles ws tray (counted .0) (counted .1) c in-module ways keeps)
+
+  -- and, callees run, where it keeps the counts of their loops too, at most the whole figure of its line
+  pub call-whole : KeepsCounts (chunksIn ws) true (begin (chunksIn ws) c) ways
+      → min cycleCap (pathCycles (chunksIn ws) (path (chunksIn ws) true (begin (chunksIn ws) c) ways)) ≤ getD after (lineWidth * c + wholePlace) 0
+  call-whole keeps = rw left (tray-whole ws tray (counted .0) (counted .1) c in-module ways keeps)
 
   -- and its stack bytes, callees run, where it keeps its depths, at most the bytes of its line
   pub call-bytes : KeepsDepths (chunksIn ws) true (begin (chunksIn ws) c) ways

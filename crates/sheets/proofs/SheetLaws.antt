@@ -10,7 +10,7 @@ use Rattle.rules.specs.Outcome.{answer, refused, followedBy, inChunk}
 use Rattle.rules.specs.Form.{Chunk}
 use Rattle.rules.specs.Order.{Listing, listed, ring, callOrder, chunkAt}
 use Rattle.rules.specs.Sheet as R
-use Rattle.rules.specs.Sheet.{noLine, chunkLine, bytesList, linesIn, sheetOf, ringOutcome}
+use Rattle.rules.specs.Sheet.{noLine, chunkLine, bytesList, wholeList, linesIn, sheetOf, ringOutcome}
 use Rattle.rules.proofs.Answers.{from-answer}
 use Rattle.rules.proofs.Members.{In, in-head, in-tail}
 use Rattle.rules.proofs.CallOrder.{order-sound}
@@ -24,7 +24,7 @@ use Rattle.order.proofs.VisitLaws.{few-chunks}
 use Rattle.order.proofs.MarkLaws.{told-ring}
 use Rattle.order.proofs.AnswerLaws.{all-chunks}
 use Rattle.sheets.specs.Module.{inOrder, rowsOf, Ordering}
-use Rattle.sheets.proofs.TurnLaws.{whole}
+use Rattle.sheets.proofs.TurnLaws.{turns}
 
 member-at : (xs : List ℕ) (j : ℕ) → j < length xs → In (getD xs j 0) xs
 member-at [] j h = absurd (omega arith)
@@ -47,7 +47,7 @@ module _ {ws : List ℕ} {n : ℕ} (words : Readable ws n) (s : Search) (shown :
     all : Shows s n [] (take n (s .order)) × (callOrder (chunksIn ws) ≡ listed (take n (s .order))) × (length (take n (s .order)) ≡ n)
     all = all-chunks words s shown none
 
-    pub lines-sheet : inOrder (take n (s .order)) (whole ws (s .order) n) ≡ sheetOf (chunksIn ws)
+    pub lines-sheet : inOrder (take n (s .order)) (turns ws (s .order) n) ≡ sheetOf (chunksIn ws)
     lines-sheet =
         ap (λ (m : ℕ). inOrder (take n (s .order)) (linesIn (take n (s .order)) (chunksIn ws) (replicate m noLine))) (words .chunks) ∙ sym (sheet-from _ (all .1))
 
@@ -73,7 +73,7 @@ same-length : (cs : List Chunk) (order : List ℕ) (lines final : List R.Line) �
 unfolding linesIn
 same-length cs [] lines final e = let same : final ≡ lines = cc in rw same
 same-length cs (c ∷ order) lines final e =
-    let a = from-answer (inChunk c (chunkLine (chunkAt cs c) (bytesList lines))) _ e in
+    let a = from-answer (inChunk c (chunkLine (chunkAt cs c) (bytesList lines) (wholeList lines))) _ e in
     same-length cs order (set lines c (a .0)) final (a .2) ∙ length-set lines c (a .0)
 
 pub all-lines : (cs : List Chunk) (s : R.Sheet) → sheetOf cs ≡ answer s → length (s .lines) ≡ length cs

@@ -99,7 +99,8 @@ pub fn sheet_of(words: &[u32], n: usize, numbers: &mut [u32]) -> Sheet
     sheet_lines(words, places, order, n, numbers)
 }
 
-// The lines of the chunks that stand at these places, in call order. The stack bytes stand in a list of their own too, for the callers' walks.
+// The lines of the chunks that stand at these places, in call order. The stack bytes and the whole figures stand in lists of their own too, for the callers'
+// walks.
 fn sheet_lines(
     words: &[u32],
     places: Places,
@@ -111,6 +112,7 @@ fn sheet_lines(
     ensures { λ r. ⌜ sheetIs n r (now (numbers .exit)) ≡ rowsOf (inOrder (take n order) (linesIn (take n order) (chunksIn (now (words .entry))) (replicate n noLine))) ⌝ }
 {
     let mut bytes = [0u32; CHUNKS];
+    let mut wholes = [0u32; CHUNKS];
     let mut j = 0;
     while j < n {
         let c = order[j] as usize;
@@ -118,7 +120,7 @@ fn sheet_lines(
         let ops = places.ops[c] as usize;
         let extras = places.extras[c] as usize;
         let p = parts_from(words, at, ops, extras, places.ends[c] as usize);
-        let answer = chunk_line(words, p, &bytes[..n]);
+        let answer = chunk_line(words, p, &bytes[..n], &wholes[..n]);
         let line = match answer {
             LineAnswer::Is(l) => l,
             LineAnswer::Refused { number, place } => {
@@ -127,6 +129,7 @@ fn sheet_lines(
         };
         put_row(numbers, c, line);
         bytes[c] = line.bytes.0;
+        wholes[c] = line.whole;
         j += 1;
     }
     Sheet {

@@ -138,6 +138,7 @@ fn wcmu_step(
         Block::If(t) => wcmu_if(constants, ops, callees, i, t, left, behind),
         Block::IfElse(e, f) => wcmu_else(constants, ops, callees, i, e, f, left, behind),
         Block::Loop(e) => wcmu_loop(constants, ops, callees, i, e, left, behind),
+        Block::Call(_) => Step::Goes(next, behind),
     }
 }
 

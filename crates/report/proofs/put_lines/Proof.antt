@@ -5,6 +5,7 @@ use native.Mathlib.Nat.{add-sub-cancel-left}
 use native.Mathlib.Omega.{arith}
 use borrow.Author.Needs.{needs}
 use lib.ListN.{length, getD, length-take, length-drop}
+use Rattle.rules.specs.Sheet.{lineWidth}
 use Rattle.report.proofs.LinesLaws.{Written, written-none, line-room, written-more}
 use Rattle.report.proofs.put_lines.Statement.{statement}
 use Rattle.report.proofs.put_lines.Tie as tie
@@ -36,7 +37,8 @@ cast-k c = omega (arith, c .shared-slice-known3 .given (c .before .before .loop 
 
 -- the rows of the chunk and of the turn are there
 room : (i : tie.In-loop Inv-loop μ-loop) → let a = start i .args in
-    (3 * getD (a .order .now) (i .before .loop .j) 0 + 3 ≤ length (a .numbers .now)) × (3 * i .before .loop .j + 3 ≤ length (a .numbers .now))
+    (lineWidth * getD (a .order .now) (i .before .loop .j) 0 + lineWidth ≤ length (a .numbers .now))
+    × (lineWidth * i .before .loop .j + lineWidth ≤ length (a .numbers .now))
 room i = (omega (arith, chosen i, start i .pre .numbers-room), omega (arith, i .loop-test .taken, start i .pre .numbers-room))
 
 mul-from : tie.Need-mul-from Inv-loop μ-loop

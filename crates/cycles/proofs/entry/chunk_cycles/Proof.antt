@@ -25,13 +25,13 @@ returns c k parts =
 
 wcet-region-requires : tie.Need-wcet-region-requires
 wcet-region-requires c κs =
-    let o = c .before .before .before .before .before .before in
+    let o = c .before .before .before .before .before .before .before in
     let f = o .before .before .pre in
-    row-there (f .parts) (f .short) (o .ops-of .ensures) (row-is (c .before .before)) .fits
+    row-there (f .parts) (f .short) (o .ops-of .ensures) (row-is (c .before .before .before)) .fits
 
 returns-2 : tie.Need-returns-2
 returns-2 c k parts =
-    let e = c .before in
+    let e = c .before .before in
     let m = e .before in
     let o = m .before .before .before .before .before in
     range-told (o .before .before .pre .short) (o .ops-of .ensures) k parts (m .constants-of .ensures) (e .extras-of .ensures) _ (row-is (m .before)) (c .wcet-region .ensures)
@@ -40,4 +40,4 @@ pub chunk-cycles-spec : {M : Type 1} → statement M
 chunk-cycles-spec =
     tie.close
     (tie.spec (λ c κs. search needs) chunk-row-requires (λ c. search needs) (λ c. search needs) returns (λ c κs. search needs) (λ c κs. search needs)
-    wcet-region-requires returns-2)
+    (λ c. search needs) wcet-region-requires returns-2)

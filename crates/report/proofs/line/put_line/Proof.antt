@@ -13,16 +13,18 @@ use Rattle.report.proofs.line.put_line.Tie as tie
 
 -- the numbers of the row are words
 words : (s : tie.After-shared-slice-known) → let row = s .before .before .args .row .now in
-    (getD row 0 0 < 2 ^ 32) × (getD row 1 0 < 2 ^ 32) × (getD row 2 0 < 2 ^ 32)
+    (getD row 0 0 < 2 ^ 32) × (getD row 1 0 < 2 ^ 32) × (getD row 2 0 < 2 ^ 32) × (getD row 3 0 < 2 ^ 32)
 words s =
     let known = s .shared-slice-known .given in
-    (omega (arith, known 0), omega (arith, known 1), omega (arith, known 2))
+    (omega (arith, known 0), omega (arith, known 1), omega (arith, known 2), omega (arith, known 3))
 
 -- how long the fields are
 sizes : (s : tie.After-shared-slice-known) → let row = s .before .before .args .row .now in
     (length (fieldText (s .before .before .args .c) 32) ≤ 11) × (length (fieldText (getD row 0 0) 32) ≤ 11)
-    × (length (fieldText (getD row 1 0) 32) ≤ 11) × (length (fieldText (getD row 2 0) 10) ≤ 11)
-sizes s = (short-field _ _ (omega arith), short-field _ _ (words s .0), short-field _ _ (words s .1), short-field _ _ (words s .2))
+    × (length (fieldText (getD row 1 0) 32) ≤ 11) × (length (fieldText (getD row 2 0) 32) ≤ 11) × (length (fieldText (getD row 3 0) 10) ≤ 11)
+sizes s =
+    let w = words s in
+    (short-field _ _ (omega arith), short-field _ _ (w .0), short-field _ _ (w .1), short-field _ _ (w .2), short-field _ _ (w .3))
 
 -- where a field is to be written, the field before it
 abbrev first : tie.After-shared-slice-known2 → tie.After-put-field
@@ -34,6 +36,9 @@ second c = c .before .before .before .before
 abbrev third : tie.After-shared-slice-known4 → tie.After-put-field3
 third c = c .before .before .before .before
 
+abbrev fourth : tie.After-shared-slice-known5 → tie.After-put-field4
+fourth c = c .before .before .before .before
+
 -- and the row
 abbrev row₂ : tie.After-shared-slice-known2 → tie.After-shared-slice-known
 row₂ c = first c .before .before
@@ -43,6 +48,9 @@ row₃ c = row₂ (second c .before)
 
 abbrev row₄ : tie.After-shared-slice-known4 → tie.After-shared-slice-known
 row₄ c = row₃ (third c .before)
+
+abbrev row₅ : tie.After-shared-slice-known5 → tie.After-shared-slice-known
+row₅ c = row₄ (fourth c .before)
 
 put-field-requires : tie.Need-put-field-requires
 put-field-requires c κs = omega (arith, sizes (c .before))
@@ -65,20 +73,36 @@ cast-put-field-3 c = omega (arith, words (row₄ c))
 put-field-requires-4 : tie.Need-put-field-requires-4
 put-field-requires-4 c κs = omega (arith, sizes (row₄ c))
 
+cast-put-field-4 : tie.Need-cast-put-field-4
+cast-put-field-4 c = omega (arith, words (row₅ c))
+
+put-field-requires-5 : tie.Need-put-field-requires-5
+put-field-requires-5 c κs = omega (arith, sizes (row₅ c))
+
 returns : tie.Need-returns
 returns c =
-    let f₄ = c .before .before in
+    let f₅ = c .before .before in
+    let f₄ = fourth (f₅ .before) in
     let f₃ = third (f₄ .before) in
     let f₂ = second (f₃ .before) in
     let f₁ = first (f₂ .before) in
-    let s = row₄ (f₄ .before) in
-    let short : f₄ .put-field4 .result ≤ s .before .before .args .at + lineMost =
-    omega (arith, sizes s, f₁ .put-field .ensures .1, f₂ .put-field2 .ensures .1, f₃ .put-field3 .ensures .1, f₄ .put-field4 .ensures .1) in
-    let numbers = more (f₂ .put-field2 .ensures) (more (f₃ .put-field3 .ensures) (more (f₄ .put-field4 .ensures) done)) in
+    let s = row₅ (f₅ .before) in
+    let short : f₅ .put-field5 .result ≤ s .before .before .args .at + lineMost =
+    omega (
+      arith,
+      sizes s,
+      f₁ .put-field .ensures .1,
+      f₂ .put-field2 .ensures .1,
+      f₃ .put-field3 .ensures .1,
+      f₄ .put-field4 .ensures .1,
+      f₅ .put-field5 .ensures .1,
+    ) in
+    let numbers = more (f₂ .put-field2 .ensures) (more (f₃ .put-field3 .ensures) (more (f₄ .put-field4 .ensures) (more (f₅ .put-field5 .ensures) done))) in
     (λ l is. rw (row-line (s .before .before .args .c) l is) at (all-put (more (f₁ .put-field .ensures) numbers) (omega arith)), short)
 
 pub put-line-spec : {M : Type 1} → statement M
 put-line-spec =
     tie.close
     (tie.spec put-field-requires (λ c. search needs) cast-put-field put-field-requires-2 (λ c. search needs) cast-put-field-2
-    put-field-requires-3 (λ c. search needs) cast-put-field-3 put-field-requires-4 (λ c. search needs) returns)
+    put-field-requires-3 (λ c. search needs) cast-put-field-3 put-field-requires-4 (λ c. search needs) cast-put-field-4
+    put-field-requires-5 (λ c. search needs) returns)

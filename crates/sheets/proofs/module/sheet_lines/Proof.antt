@@ -20,10 +20,10 @@ use Rattle.sheets.proofs.module.sheet_lines.Statement.{statement}
 use Rattle.sheets.proofs.module.sheet_lines.Tie as tie
 
 abbrev Inv-loop : tie.InvT-loop
-Inv-loop words n numbers₀ places order bytes₀ j₀ numbers bytes j = (length numbers ≡ length numbers₀) × Lined words order n j numbers bytes
+Inv-loop words n numbers₀ places order bytes₀ wholes₀ j₀ numbers bytes wholes j = (length numbers ≡ length numbers₀) × Lined words order n j numbers bytes wholes
 
 abbrev μ-loop : tie.MeasureT-loop
-μ-loop words n numbers₀ places order bytes₀ j₀ numbers bytes j = n - j
+μ-loop words n numbers₀ places order bytes₀ wholes₀ j₀ numbers bytes wholes j = n - j
 
 loop-holds : tie.Need-loop-holds Inv-loop μ-loop
 loop-holds c =
@@ -82,27 +82,35 @@ parts-from-requires c κs =
 array-share-prefix-bytes : tie.Need-array-share-prefix-bytes Inv-loop μ-loop
 array-share-prefix-bytes c =
     let i = c .before .before .before .before .before in
-    omega (arith, few i, i .before .loop .inv .1 .bytes-size)
+    omega (arith, few i, i .before .loop .inv .1 .in-bytes .size)
 
 slice-aggregate-chunk-line : tie.Need-slice-aggregate-chunk-line Inv-loop μ-loop
 slice-aggregate-chunk-line c = sym (length-take-le _ _ (array-share-prefix-bytes (c .before)))
 
+array-share-prefix-wholes : tie.Need-array-share-prefix-wholes Inv-loop μ-loop
+array-share-prefix-wholes c =
+    let i = c .before .before .before .before .before .before in
+    omega (arith, few i, i .before .loop .inv .1 .in-wholes .size)
+
+slice-aggregate-chunk-line-2 : tie.Need-slice-aggregate-chunk-line-2 Inv-loop μ-loop
+slice-aggregate-chunk-line-2 c = sym (length-take-le _ _ (array-share-prefix-wholes (c .before)))
+
 chunk-line-requires : tie.Need-chunk-line-requires Inv-loop μ-loop
 chunk-line-requires c κs =
-    let i = c .before .before .before .before .before .before in
-    turn-fits (entry i .pre .0) (i .before .loop .j) (i .loop-test .taken) _ (c .before .parts-from .ensures)
+    let i = c .before .before .before .before .before .before .before in
+    turn-fits (entry i .pre .0) (i .before .loop .j) (i .loop-test .taken) _ (c .before .before .parts-from .ensures)
 
 -- the turn in which the line was asked for, and the line of its chunk
 abbrev inside : tie.After-chunk-line Inv-loop μ-loop → tie.In-loop Inv-loop μ-loop
-inside c = c .before .before .before .before .before .before .before
+inside c = c .before .before .before .before .before .before .before .before
 
 told : (c : tie.After-chunk-line Inv-loop μ-loop)
     → lineResult (c .chunk-line .result)
     ≡ chunkLine (chunkAt (chunksIn (entry (inside c) .args .words .now)) (getD (entry (inside c) .args .t3) (inside c .before .loop .j) 0))
-    (take (entry (inside c) .args .n) (inside c .before .loop .bytes))
+    (take (entry (inside c) .args .n) (inside c .before .loop .bytes)) (take (entry (inside c) .args .n) (inside c .before .loop .wholes))
 told c =
     let i = inside c in
-    c .chunk-line .ensures _ (turn-parts (entry i .pre .0) (i .before .loop .j) (i .loop-test .taken) _ (c .before .before .parts-from .ensures))
+    c .chunk-line .ensures _ (turn-parts (entry i .pre .0) (i .before .loop .j) (i .loop-test .taken) _ (c .before .before .before .parts-from .ensures))
 
 same-length : tie.Need-same-length Inv-loop μ-loop
 same-length c = inside (c .before .before .before .before) .before .loop .inv .0
@@ -132,6 +140,15 @@ mul-bytes c = omega (arith, under (storing (c .before .before .before)))
 array-write-bytes : tie.Need-array-write-bytes Inv-loop μ-loop
 array-write-bytes c = omega (arith, under (storing (c .before .before .before)))
 
+mul-wholes : tie.Need-mul-wholes Inv-loop μ-loop
+mul-wholes c = omega (arith, under (storing (c .before .before .before)))
+
+array-write-wholes : tie.Need-array-write-wholes Inv-loop μ-loop
+array-write-wholes c = omega (arith, under (storing (c .before .before .before)))
+
+add-j : tie.Need-add-j Inv-loop μ-loop
+add-j c = let i = storing (c .before .before .before) in omega (arith, few i, i .loop-test .taken)
+
 loop-again : tie.Need-loop-again Inv-loop μ-loop
 loop-again c =
     let r = c .before .before in
@@ -155,6 +172,6 @@ sheet-lines-spec =
     tie.close
     (tie.spec Inv-loop μ-loop loop-holds array-read-c cast-c mul-at element-copy-out-at (λ c. search needs) mul-ops element-copy-out-ops
     (λ c. search needs) mul-extras element-copy-out-extras (λ c. search needs) mul-parts-from element-copy-out-parts-from (λ c. search needs)
-    parts-from-requires array-share-prefix-bytes slice-aggregate-chunk-line chunk-line-requires (λ c. search needs) (λ c. search needs)
-    (λ c κs. search needs) same-length returns put-row-requires mul-bytes array-write-bytes (λ c. search needs)
+    parts-from-requires array-share-prefix-bytes slice-aggregate-chunk-line array-share-prefix-wholes slice-aggregate-chunk-line-2 chunk-line-requires (λ c. search needs) (λ c. search needs)
+    (λ c κs. search needs) same-length returns put-row-requires mul-bytes array-write-bytes mul-wholes array-write-wholes add-j
     (λ c. search needs) loop-again same-length-2 returns-2)

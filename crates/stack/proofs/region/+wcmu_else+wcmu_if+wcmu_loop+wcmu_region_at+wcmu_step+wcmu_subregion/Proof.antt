@@ -403,7 +403,7 @@ wcmu-step-wcmu-if-requires t c κs =
     let k = f .before .before in
     let p = k .before .before .before .before .before .before .before .pre in
     let s = p .1 .1 .1 in
-    (omega (arith, p .0), (behind-small (wcmu-step-over t (k .before .before) _ s) (p .1 .0), (_, record { row = s .row; at = rw (f .block .given .1) at (k .block-at .ensures _ s) })))
+    (omega (arith, p .0), (behind-small (wcmu-step-over t (k .before .before) _ s) (p .1 .0), (_, record { row = s .row; at = rw (f .block .given .1) at (k .block-at .ensures .0 _ s) })))
 
 wcmu-step-wcmu-else-requires : wcmu-step-need wcmu-step-lts.Need-wcmu-else-requires
 wcmu-step-wcmu-else-requires t c κs =
@@ -411,7 +411,7 @@ wcmu-step-wcmu-else-requires t c κs =
     let k = f .before .before in
     let p = k .before .before .before .before .before .before .before .pre in
     let s = p .1 .1 .1 in
-    (omega (arith, p .0), (behind-small (wcmu-step-over t (k .before .before) _ s) (p .1 .0), (_, record { row = s .row; at = rw (f .block2 .given .1) at (k .block-at .ensures _ s) })))
+    (omega (arith, p .0), (behind-small (wcmu-step-over t (k .before .before) _ s) (p .1 .0), (_, record { row = s .row; at = rw (f .block2 .given .1) at (k .block-at .ensures .0 _ s) })))
 
 wcmu-step-wcmu-loop-requires : wcmu-step-need wcmu-step-lts.Need-wcmu-loop-requires
 wcmu-step-wcmu-loop-requires t c κs =
@@ -419,51 +419,56 @@ wcmu-step-wcmu-loop-requires t c κs =
     let k = f .before .before in
     let p = k .before .before .before .before .before .before .before .pre in
     let s = p .1 .1 .1 in
-    (omega (arith, p .0), (behind-small (wcmu-step-over t (k .before .before) _ s) (p .1 .0), (_, record { row = s .row; at = rw (f .block3 .given .1) at (k .block-at .ensures _ s) })))
+    (omega (arith, p .0), (behind-small (wcmu-step-over t (k .before .before) _ s) (p .1 .0), (_, record { row = s .row; at = rw (f .block3 .given .1) at (k .block-at .ensures .0 _ s) })))
 
 wcmu-step-returns : wcmu-step-need wcmu-step-lts.Need-returns
 wcmu-step-returns t c to h =
     let k = c .before .before in
-    step-plain (wcmu-step-over t (k .before .before) to h) _ _ (rw (c .enum-told .given .1) at (k .block-at .ensures to h))
+    step-plain (wcmu-step-over t (k .before .before) to h) _ _ (rw (c .enum-told .given .1) at (k .block-at .ensures .0 to h))
 
 wcmu-step-returns-2 : wcmu-step-need wcmu-step-lts.Need-returns-2
 wcmu-step-returns-2 t c to h =
     let e = c .before in
     let k = e .before .before in
-    step-ends (wcmu-step-over t (k .before .before) to h) _ _ (rw (e .enum-told2 .given .1) at (k .block-at .ensures to h)) _ (c .ended .ensures)
+    step-ends (wcmu-step-over t (k .before .before) to h) _ _ (rw (e .enum-told2 .given .1) at (k .block-at .ensures .0 to h)) _ (c .ended .ensures)
 
 wcmu-step-returns-3 : wcmu-step-need wcmu-step-lts.Need-returns-3
 wcmu-step-returns-3 t c to h =
     let e = c .before in
     let k = e .before .before in
-    step-break (wcmu-step-over t (k .before .before) to h) _ _ (rw (e .enum-told3 .given .1) at (k .block-at .ensures to h)) _ (c .ended2 .ensures)
+    step-break (wcmu-step-over t (k .before .before) to h) _ _ (rw (e .enum-told3 .given .1) at (k .block-at .ensures .0 to h)) _ (c .ended2 .ensures)
 
 wcmu-step-returns-4 : wcmu-step-need wcmu-step-lts.Need-returns-4
 wcmu-step-returns-4 t c to h =
     let e = c .before in
     let k = e .before .before in
-    step-break-if (wcmu-step-over t (k .before .before) to h) _ _ (rw (e .enum-told4 .given .1) at (k .block-at .ensures to h)) _ (c .marked .ensures)
+    step-break-if (wcmu-step-over t (k .before .before) to h) _ _ (rw (e .enum-told4 .given .1) at (k .block-at .ensures .0 to h)) _ (c .marked .ensures)
 
 wcmu-step-returns-5 : wcmu-step-need wcmu-step-lts.Need-returns-5
 wcmu-step-returns-5 t c to h =
     let f = c .before .before in
     let k = f .before .before in
-    step-if (wcmu-step-over t (k .before .before) to h) _ _ (rw (f .block .given .1) at (k .block-at .ensures to h))
+    step-if (wcmu-step-over t (k .before .before) to h) _ _ (rw (f .block .given .1) at (k .block-at .ensures .0 to h))
     (c .wcmu-if .result) (c .wcmu-if .ensures)
 
 wcmu-step-returns-6 : wcmu-step-need wcmu-step-lts.Need-returns-6
 wcmu-step-returns-6 t c to h =
     let f = c .before .before in
     let k = f .before .before in
-    step-else (wcmu-step-over t (k .before .before) to h) _ _ (rw (f .block2 .given .1) at (k .block-at .ensures to h))
+    step-else (wcmu-step-over t (k .before .before) to h) _ _ (rw (f .block2 .given .1) at (k .block-at .ensures .0 to h))
     (c .wcmu-else .result) (c .wcmu-else .ensures)
 
 wcmu-step-returns-7 : wcmu-step-need wcmu-step-lts.Need-returns-7
 wcmu-step-returns-7 t c to h =
     let f = c .before .before in
     let k = f .before .before in
-    step-loop (wcmu-step-over t (k .before .before) to h) _ _ (rw (f .block3 .given .1) at (k .block-at .ensures to h))
+    step-loop (wcmu-step-over t (k .before .before) to h) _ _ (rw (f .block3 .given .1) at (k .block-at .ensures .0 to h))
     (c .wcmu-loop .result) (c .wcmu-loop .ensures)
+
+wcmu-step-returns-8 : wcmu-step-need wcmu-step-lts.Need-returns-8
+wcmu-step-returns-8 t c to h =
+    let k = c .before .before in
+    step-plain (wcmu-step-over t (k .before .before) to h) _ _ (rw (c .enum-told5 .given .1) at (k .block-at .ensures .0 to h))
 
 -- what the callees of `wcmu-subregion` ask and give, and what a need of it is
 abbrev wcmu-subregion-calls : ℕ → wcmu-subregion-lts.Claims
@@ -527,8 +532,8 @@ pub +wcmu-else+wcmu-if+wcmu-loop+wcmu-region-at+wcmu-step+wcmu-subregion-spec :
     (λ t. wcmu-step-lts.spec (wcmu-step-calls t) (wcmu-step-at t) wcmu-step.Post (wcmu-step-op-effect-requires t) (wcmu-step-level-over-requires t)
     (wcmu-step-block-at-requires t) (wcmu-step-add-next t) (λ c. search needs) (λ c. search needs) (λ c κs. tt) (λ c. search needs) (λ c κs. tt)
     (λ c. search needs) (λ c κs. tt) (λ c. search needs) (wcmu-step-wcmu-if-requires t) (λ c. search needs)
-    (wcmu-step-wcmu-else-requires t) (λ c. search needs) (wcmu-step-wcmu-loop-requires t) (wcmu-step-returns t) (wcmu-step-returns-2 t)
-    (wcmu-step-returns-3 t) (wcmu-step-returns-4 t) (wcmu-step-returns-5 t) (wcmu-step-returns-6 t) (wcmu-step-returns-7 t))
+    (wcmu-step-wcmu-else-requires t) (λ c. search needs) (wcmu-step-wcmu-loop-requires t) (λ c. search needs) (wcmu-step-returns t) (wcmu-step-returns-2 t)
+    (wcmu-step-returns-3 t) (wcmu-step-returns-4 t) (wcmu-step-returns-5 t) (wcmu-step-returns-6 t) (wcmu-step-returns-7 t) (wcmu-step-returns-8 t))
     λ t. wcmu-subregion-lts.spec (wcmu-subregion-calls t) (wcmu-subregion-at t) wcmu-subregion.Post (wcmu-subregion-returns t)
     (λ c. omega arith) (wcmu-subregion-wcmu-region-at-requires t) (λ c. search needs)
     (λ c. search needs) (wcmu-subregion-returns-2 t) (wcmu-subregion-lift-requires t) (wcmu-subregion-returns-3 t)
