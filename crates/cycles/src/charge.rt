@@ -1,24 +1,17 @@
-// The charge of an op: its cycles and its extra; and what a callee adds to its Call.
+// The charge of an op: its cycles and its extra. What a callee adds to its Call is added by the walk.
 use crate::sums::cap_add;
 use words::figures::cycles;
 use words::limits::OPEN_TEXT;
 use words::values::extra_at;
 ghost use mathlib.Core.Path.{_≡_};
 ghost use Prim.Native.Nat.{_<_};
-ghost use lib.ListN.{length, getD};
+ghost use lib.ListN.{length};
 ghost use Rattle.cycles.specs.Answers.{chargeResult, chargeAt};
 
 // A charge, or open text: the greatest extra.
 pub enum Charge {
     Is(u32),
     OpenText,
-}
-
-// The whole figure of a callee, 0 past the list's end.
-pub fn whole_at(wholes: &[u32], k: usize) -> u32
-    ensures { λ r. ⌜ r ≡ getD (now (wholes .entry)) k 0 ⌝ }
-{
-    if k < wholes.len() { wholes[k] } else { 0 }
 }
 
 // Cycles plus extra of the op at i, without what a callee adds.

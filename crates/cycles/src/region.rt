@@ -1,7 +1,6 @@
 // The cycle walk of a row: op after op, with the bodies of its blocks one level deeper.
 use crate::charge::Charge;
 use crate::charge::op_wcet_cycles;
-use crate::charge::whole_at;
 use crate::sums::Breaks;
 use crate::sums::break_cost;
 use crate::sums::cap_add;
@@ -12,6 +11,7 @@ use count::bound::extract_loop_iteration_bound;
 use rows::block::Block;
 use rows::block::block_at;
 use words::refusals;
+use words::values::number_at;
 ghost use mathlib.Core.Path.{_≡_};
 ghost use Prim.Native.Nat.{ℕ, _≤_, _<_};
 ghost use lib.ListN.{length};
@@ -135,7 +135,7 @@ fn wcet_step(
             breaks,
         ),
         Block::Loop(e) => wcet_loop(constants, ops, extras, wholes, i, e, left, cost, breaks),
-        Block::Call(k) => Step::Goes(next, cap_add(cost, whole_at(wholes, k)), breaks),
+        Block::Call(k) => Step::Goes(next, cap_add(cost, number_at(wholes, k)), breaks),
     }
 }
 

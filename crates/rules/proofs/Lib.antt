@@ -13,6 +13,7 @@ pub mod Shapes
 pub mod RowTree
 pub mod Capped
 pub mod Members
+pub mod Mapped
 pub mod CallOrder
 pub mod Answers
 pub mod SheetLines

@@ -2,7 +2,7 @@
 -- which works out no whole figure. Assumes nothing.
 use mathlib.Core.Path.{_≡_, refl, sym, ap, _∙_}
 use mathlib.Core.List.{List, [], _∷_, map}
-use Prim.Native.Nat.{ℕ, zero, suc}
+use Prim.Native.Nat.{ℕ}
 use lib.ListN.{length, set, replicate}
 use Rattle.rules.specs.Limits.{cycleCap}
 use Rattle.rules.specs.Outcome.{Result, ok, no, Outcome, answer, refused, andThen, followedBy, inChunk}
@@ -12,6 +12,7 @@ use Rattle.rules.specs.Cycles.{Cost, cappedCost}
 use Rattle.rules.specs.Stack.{Stack, rowStack}
 use Rattle.rules.specs.Order.{callOrder, chunkAt}
 use Rattle.rules.specs.Sheet.{Line, lineOf, chunkLine, noLine, bytesList, wholeList, linesIn, Sheet, sheetOf, ringOutcome}
+use Rattle.rules.proofs.Mapped.{map-alike, map-set}
 use Rattle.rules.proofs.Below.{Below}
 use Rattle.rules.proofs.Callees.{Fewer, callees-add}
 
@@ -69,18 +70,9 @@ line-stays c callees wholes = by-row (chunkRow c)
     by-row (ok r) = by-walks (rowStack c callees r) (cappedCost cycleCap c [] r) (cappedCost cycleCap c wholes r) (callees-add c wholes cycleCap r)
     by-row (no n p) = refl
 
-rest-set : (ls : List Line) (c : ℕ) (l : Line) → map rest (set ls c l) ≡ set (map rest ls) c (rest l)
-rest-set [] c l = refl
-rest-set (x ∷ ls) zero l = refl
-rest-set (x ∷ ls) (suc c) l = ap (λ (ms : List BaseLine). rest x ∷ ms) (rest-set ls c l)
-
 rest-bytes : (ls : List Line) → map (λ (m : BaseLine). m .bytes) (map rest ls) ≡ bytesList ls
 rest-bytes [] = refl
 rest-bytes (x ∷ ls) = ap (λ (bs : List ℕ). x .bytes ∷ bs) (rest-bytes ls)
-
-rest-alike : (n : ℕ) (l : Line) → map rest (replicate n l) ≡ replicate n (rest l)
-rest-alike zero l = refl
-rest-alike (suc n) l = ap (λ (ms : List BaseLine). rest l ∷ ms) (rest-alike n l)
 
 module _ (cs : List Chunk) where
   lines-stay : (order : List ℕ) (ls : List Line) → followedBy (linesIn order cs ls) (λ ms. answer (map rest ms)) ≡ baseLines order cs (map rest ls)
@@ -89,7 +81,7 @@ module _ (cs : List Chunk) where
   lines-stay (c ∷ order) ls =
       by-line (chunkLine (chunkAt cs c) (bytesList ls) (wholeList ls))
       (line-stays (chunkAt cs c) (bytesList ls) (wholeList ls) ∙ ap (λ (bs : List ℕ). baseLine (chunkAt cs c) bs) (sym (rest-bytes ls)))
-      (λ l. lines-stay order (set ls c l) ∙ ap (λ (ms : List BaseLine). baseLines order cs ms) (rest-set ls c l))
+      (λ l. lines-stay order (set ls c l) ∙ ap (λ (ms : List BaseLine). baseLines order cs ms) (map-set rest ls c l))
     where
       by-line : (x : Result Line) → andThen x (λ l. ok (rest l)) ≡ baseLine (chunkAt cs c) (map (λ m. m .bytes) (map rest ls))
           → ((l : Line) → followedBy (linesIn order cs (set ls c l)) (λ ms. answer (map rest ms)) ≡ baseLines order cs (set (map rest ls) c (rest l)))
@@ -115,5 +107,5 @@ module _ (cs : List Chunk) where
       by-order (answer order) =
           by-lines order (linesIn order cs (replicate (length cs) noLine))
           ∙ ap (λ (x : Outcome (List BaseLine)). followedBy x (λ ms. answer (record { order = order; lines = ms })))
-          (lines-stay order (replicate (length cs) noLine) ∙ ap (λ (ms : List BaseLine). baseLines order cs ms) (rest-alike (length cs) noLine))
+          (lines-stay order (replicate (length cs) noLine) ∙ ap (λ (ms : List BaseLine). baseLines order cs ms) (map-alike rest (length cs) noLine))
       by-order (refused n c p) = refl

@@ -11,6 +11,7 @@ use Rattle.rules.specs.Outcome.{Result, ok, no, Outcome, answer, refused, follo
 use Rattle.rules.specs.Order.{chunkAt}
 use Rattle.rules.specs.Sheet as R
 use Rattle.rules.specs.Sheet.{noLine, chunkLine, linesIn, lineNumbers, lineWidth, trayNumbers}
+use Rattle.rules.proofs.Mapped.{map-alike, map-set}
 use Rattle.rules.proofs.ReadingAgrees.{read-words}
 use Rattle.words.specs.declared.parts.Parts.{Parts}
 use Rattle.words.specs.Parts.{partsFrom, chunksIn, PartsOf, PartsFit}
@@ -32,25 +33,16 @@ pub record Column (f : R.Line → ℕ) (n : ℕ) (lines : List R.Line) (numbers 
   pub is : take n numbers ≡ map f lines
 
 module _ (f : R.Line → ℕ) where
-  map-alike : (n : ℕ) (l : R.Line) → map f (replicate n l) ≡ replicate n (f l)
-  map-alike zero l = refl
-  map-alike (suc n) l = ap (λ (xs : List ℕ). f l ∷ xs) (map-alike n l)
-
-  map-set : (ls : List R.Line) (c : ℕ) (l : R.Line) → map f (set ls c l) ≡ set (map f ls) c (f l)
-  map-set [] c l = refl
-  map-set (x ∷ ls) zero l = refl
-  map-set (x ∷ ls) (suc c) l = ap (λ (xs : List ℕ). f x ∷ xs) (map-set ls c l)
-
   column-begins : f noLine ≡ 0 → (n : ℕ) → n ≤ mostChunks → Column f n (replicate n noLine) (replicate mostChunks 0)
   column-begins zeros n few =
-      record { size = length-replicate {A = ℕ} mostChunks 0; is = taken-alike 0 n mostChunks few ∙ sym (map-alike n noLine ∙ rw zeros) }
+      record { size = length-replicate {A = ℕ} mostChunks 0; is = taken-alike 0 n mostChunks few ∙ sym (map-alike f n noLine ∙ rw zeros) }
 
   column-stored : {n : ℕ} {lines : List R.Line} {numbers : List ℕ} → Column f n lines numbers → (c : ℕ) → c < n → (l : R.Line)
       → Column f n (set lines c l) (set numbers c (f l))
   column-stored {n} {lines} {numbers} k c below l =
       record {
         size = length-set numbers c (f l) ∙ k .size;
-        is = take-set-lt n numbers c (f l) below ∙ ap (λ (xs : List ℕ). set xs c (f l)) (k .is) ∙ sym (map-set lines c l);
+        is = take-set-lt n numbers c (f l) below ∙ ap (λ (xs : List ℕ). set xs c (f l)) (k .is) ∙ sym (map-set f lines c l);
       }
 
 abbrev pub bytesOf : R.Line → ℕ

@@ -6,6 +6,7 @@ use words::kinds;
 use words::units::Slots;
 use words::units::StackBytes;
 use words::units::slots_in;
+use words::values::number_at;
 ghost use mathlib.Core.Path.{_≡_};
 ghost use Prim.Native.Nat.{_<_, _≤_, max};
 ghost use lib.IntN.{natAbs};
@@ -31,11 +32,7 @@ pub struct Level {
 fn bytes_at(callees: &[u32], k: usize) -> StackBytes
     ensures { λ r. ⌜ r .0 ≡ getD (now (callees .entry)) k 0 ⌝ }
 {
-    if k < callees.len() {
-        StackBytes(callees[k])
-    } else {
-        StackBytes(0)
-    }
+    StackBytes(number_at(callees, k))
 }
 
 // A Call's rise: the callee's slots less the arguments, at least 1.

@@ -1,4 +1,4 @@
-// What the words of a constant and of an extra say.
+// What the words of a constant and of an extra say, and the numbers of a list by chunk index.
 use crate::fields;
 use crate::kinds;
 ghost use mathlib.Core.Path.{_≡_};
@@ -61,4 +61,11 @@ pub fn extra_at(extras: &[u32], i: usize) -> u32
     }
     let at = 2 * i;
     extras[at] % fields::B_UNIT + fields::B_UNIT * (extras[at + 1] % fields::B_UNIT)
+}
+
+// The number that a list has for a chunk, by its index; past the end it is 0.
+pub fn number_at(numbers: &[u32], k: usize) -> u32
+    ensures { λ r. ⌜ r ≡ getD (now (numbers .entry)) k 0 ⌝ }
+{
+    if k < numbers.len() { numbers[k] } else { 0 }
 }

@@ -33,7 +33,7 @@ use Rattle.cycles.proofs.region.wcet_step.Reads as wcet-step
 use Rattle.cycles.proofs.region.wcet_step.Kinds as wcet-step-kinds
 use Rattle.cycles.proofs.region.+wcet_else+wcet_if+wcet_loop+wcet_part+wcet_region_at+wcet_step.Lts-wcet_step as wcet-step-lts
 use Rattle.cycles.proofs.charge.op_wcet_cycles.Reads as op-wcet-cycles-reads
-use Rattle.cycles.proofs.charge.whole_at.Reads as whole-at-reads
+use Rattle.words.proofs.values.number_at.Reads as number-at-reads
 use Rattle.cycles.proofs.region.all_passes.Reads as all-passes-reads
 use Rattle.cycles.proofs.region.join_arms.Reads as join-arms-reads
 use Rattle.cycles.proofs.region.one_pass.Reads as one-pass-reads
@@ -318,7 +318,7 @@ wcet-region-at-returns-3 t c = rest-end (c .before .loop .inv) (c .loop-test .le
 
 -- what the callees of `wcet-step` ask and give, and what a need of it is
 abbrev wcet-step-calls : ℕ → wcet-step-lts.Claims
-wcet-step-calls t = (op-wcet-cycles-reads.Asked, op-wcet-cycles-reads.Learnt, cap-add-reads.Asked, cap-add-reads.Learnt, block-at-reads.Asked, block-at-reads.Learnt, ended-reads.Asked, ended-reads.Learnt, note-break-reads.Asked, note-break-reads.Learnt, wcet-if-below t, wcet-if.Post, wcet-else-below t, wcet-else.Post, wcet-loop-below t, wcet-loop.Post, whole-at-reads.Asked, whole-at-reads.Learnt)
+wcet-step-calls t = (op-wcet-cycles-reads.Asked, op-wcet-cycles-reads.Learnt, cap-add-reads.Asked, cap-add-reads.Learnt, block-at-reads.Asked, block-at-reads.Learnt, ended-reads.Asked, ended-reads.Learnt, note-break-reads.Asked, note-break-reads.Learnt, wcet-if-below t, wcet-if.Post, wcet-else-below t, wcet-else.Post, wcet-loop-below t, wcet-loop.Post, number-at-reads.Asked, number-at-reads.Learnt)
 
 abbrev wcet-step-need : (wcet-step-lts.Claims → In 4 wcet-step-kinds.ps → Out 4 wcet-step-kinds.ps wcet-step-kinds.r → Type 0) → Type 0
 wcet-step-need N = (t : ℕ) → N (wcet-step-calls t) (wcet-step-at t) wcet-step.Post
@@ -418,7 +418,7 @@ wcet-step-returns-9 t c to h =
     let f = w .before .before in
     let k = f .before .before in
     step-call (wcet-step-charged t (k .before) to h) (k .block-at .ensures .0 to h) (k .block-at .ensures .1) (f .block4 .given .1)
-    (rw (w .whole-at .ensures) at (c .cap-add2 .ensures))
+    (rw (w .number-at .ensures) at (c .cap-add2 .ensures))
 
 pub +wcet-else+wcet-if+wcet-loop+wcet-part+wcet-region-at+wcet-step-spec :
     {M : Type 1} → statement M

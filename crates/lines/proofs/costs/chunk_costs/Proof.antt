@@ -1,8 +1,10 @@
 -- `chunk_costs` answers a range's cycles without its callees and with them, or the first refusal of the walks.
 -- Assumes nothing.
-use mathlib.Core.Path.{sym, ap, _∙_}
+use mathlib.Core.Path.{_≡_, sym, ap, _∙_}
 use borrow.Author.Needs.{needs}
-use Rattle.cycles.specs.Answers.{walkResult}
+use Rattle.rules.specs.Outcome.{ok, andThen}
+use Rattle.cycles.specs.Answers.{chunkOf, walkResult}
+use Rattle.lines.specs.Costs.{both, bothCosts}
 use Rattle.lines.proofs.CostLaws.{first-refused, walked-once, walked-twice}
 use Rattle.lines.proofs.costs.chunk_costs.Statement.{statement}
 use Rattle.lines.proofs.costs.chunk_costs.Tie as tie
@@ -22,23 +24,24 @@ returns-2 c =
     walked-once (a .constants .now) (a .ops .now) (a .extras .now) (a .wholes .now) (a .from) (a .to)
     (sym (ap walkResult (k .walk .given .1)) ∙ w .wcet-region .ensures) (sym (c .before .calls-none .ensures) ∙ c .if1 .taken)
 
-returns-3 : tie.Need-returns-3
-returns-3 c =
-    let v = c .before .before .before in
+-- behind both walks
+twice : (v : tie.After-wcet-region2) →
+    let k = v .before .before .before .before in
+    let a = k .before .before .before .before .before .before .before .before .args in
+    andThen (walkResult (v .wcet-region2 .result)) (λ w. ok (both (k .walk .given .0 .0 .cycles) (w .cycles)))
+    ≡ bothCosts (chunkOf (a .constants .now) (a .ops .now) (a .extras .now)) (a .wholes .now) (a .from) (a .to)
+twice v =
     let k = v .before .before .before .before in
     let w = k .before .before in
     let a = w .before .before .before .before .before .before .args in
     walked-twice (a .constants .now) (a .ops .now) (a .extras .now) (a .wholes .now) (a .from) (a .to)
-    (sym (ap walkResult (k .walk .given .1)) ∙ w .wcet-region .ensures) (sym (ap walkResult (c .before .charged .given .1)) ∙ v .wcet-region2 .ensures)
+    (sym (ap walkResult (k .walk .given .1)) ∙ w .wcet-region .ensures) (v .wcet-region2 .ensures)
+
+returns-3 : tie.Need-returns-3
+returns-3 c = rw (c .before .charged .given .1) at (twice (c .before .before .before))
 
 returns-4 : tie.Need-returns-4
-returns-4 c =
-    let v = c .before .before .before in
-    let k = v .before .before .before .before in
-    let w = k .before .before in
-    let a = w .before .before .before .before .before .before .args in
-    walked-twice (a .constants .now) (a .ops .now) (a .extras .now) (a .wholes .now) (a .from) (a .to)
-    (sym (ap walkResult (k .walk .given .1)) ∙ w .wcet-region .ensures) (sym (ap walkResult (c .before .charged2 .given .1)) ∙ v .wcet-region2 .ensures)
+returns-4 c = rw (c .before .charged2 .given .1) at (twice (c .before .before .before))
 
 pub chunk-costs-spec : {M : Type 1} → statement M
 chunk-costs-spec =
