@@ -7,7 +7,6 @@ use mathlib.Core.Logic.{_⊎_, ⊎-elim}
 use Prim.Native.Nat.{ℕ, zero, suc, _+_, _-_, _<_}
 use native.Mathlib.Numerals.{sub-one}
 use native.Mathlib.Omega.{arith}
-use borrow.Author.Tests.{eq-eqb, ne-eqb}
 use lib.Dec.{eqb}
 use lib.ListN.{getD}
 use Rattle.rules.specs.Kinds as K
@@ -19,7 +18,7 @@ use Rattle.rules.specs.Form.{Chunk}
 use Rattle.rules.specs.Rows.{Shape, plain, trap, returns, ifTo, elseTo, endIf, loopTo, endLoop, breaks, breaksIf, calls, shapeOf}
 use Rattle.rules.specs.Cycles as R
 use Rattle.rules.specs.Cycles.{rowCost, costs}
-use Rattle.rules.proofs.Callees.{none-charged}
+use Rattle.rules.proofs.Callees.{none-charged, call-charged, other-charged}
 use Rattle.words.proofs.Cases.{result}
 use Rattle.rows.specs.Tree.{HasRow}
 use Rattle.rows.proofs.TreeLaws.{OpensAs, tree-empty}
@@ -62,12 +61,11 @@ module _ (constants ops extras wholes : List ℕ) where
       go false x y h = absurd (let z : _≡_ {A = ℕ} 0 1 = cc in omega arith)
 
   pub uncalled : (i : ℕ) → (kind (opAt ops i) ≡ K.Call → ⊥) → R.chargeOf C wholes i ≡ R.chargeOf C [] i
-  uncalled i n = rw (ne-eqb (kind (opAt ops i)) K.Call n)
+  uncalled i n = rw (other-charged wholes (opAt ops i) n, none-charged (opAt ops i))
 
   pub called : (i k d : ℕ) → kind (opAt ops i) ≡ K.Call → fieldA (opAt ops i) ≡ k → R.chargeOf C [] i ≡ ok d → R.chargeOf C wholes i ≡ ok (d + getD wholes k 0)
   called i k d c a e =
-      let adds : R.calleeWhole wholes (opAt ops i) ≡ getD wholes k 0 = rw (eq-eqb (kind (opAt ops i)) K.Call c, a) in
-      go (eqb (extraAt (C .extras) i) openText) (own i) _ _ (none-charged (opAt ops i)) adds e
+      go (eqb (extraAt (C .extras) i) openText) (own i) _ _ (none-charged (opAt ops i)) (call-charged wholes (opAt ops i) k c a) e
     where
       go : (b : Bool) (n x y : ℕ) → x ≡ 0 → y ≡ getD wholes k 0 → R.textCharge b i (n + x) ≡ ok d → R.textCharge b i (n + y) ≡ ok (d + getD wholes k 0)
       go true n x y p q h = absurd (let z : _≡_ {A = ℕ} 0 1 = cc in omega arith)

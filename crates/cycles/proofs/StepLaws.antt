@@ -15,7 +15,7 @@ use Rattle.rules.specs.Count.{countOf}
 use Rattle.rules.specs.Cycles as R
 use Rattle.rules.specs.Cycles.{rowCost}
 use Rattle.rows.specs.Tree.{HasRow}
-use Rattle.rows.specs.Opens.{Opens, Calls, RowFits, StepFits, IfFits, ElseFits, LoopFits}
+use Rattle.rows.specs.Opens.{Opens, TellsCall, RowFits, StepFits, IfFits, ElseFits, LoopFits}
 use Rattle.rows.specs.declared.block.Block.{Block}
 use Rattle.rows.specs.declared.block.Block.the-variants as B
 use Rattle.rows.specs.declared.block.Block.the-variants.{Plain, Call, Break, BreakIf, If, IfElse, Loop}
@@ -167,7 +167,7 @@ module _ {constants ops extras wholes : List ℕ} {i to left cycles cost : ℕ} 
   paid n = L.uncalled constants ops extras wholes i (rw read n) ∙ a .charge
 
 module _ {constants ops extras wholes : List ℕ} {i to left cycles cost : ℕ} {b : Breaks} (a : Charged constants ops extras wholes i to left cycles cost b)
-    {k : Block} (opens : Opens ops i to k) (calls : Calls (getD ops i 0) k) where
+    {k : Block} (opens : Opens ops i to k) (calls : TellsCall (getD ops i 0) k) where
   pub step-if : {t : ℕ} (r : Step) → k ≡ If t → ((to : ℕ) → IfFits ops i t to → IfMeans constants ops extras wholes i t to left cost b r)
       → StepMeans constants ops extras wholes i to left cycles b r
   unfolding rowCost

@@ -5,8 +5,7 @@ use mathlib.Core.Bool.{Bool, true, not, _&&_, and-true, and-assoc}
 use mathlib.Core.List.{List, [], _∷_}
 use Prim.Native.Nat.{ℕ, zero, suc, _+_, _≤_, _<_}
 use native.Mathlib.Numerals.{add-one}
-use native.Mathlib.Omega.{arith}
-use borrow.Author.Tests.{not-true}
+use borrow.Author.Tests.{not-true, eqb-false}
 use lib.Dec.{eqb}
 use lib.ListN.{length, getD, drop, drop-of-length-le}
 use lib.Seq.{drop-cons}
@@ -17,12 +16,11 @@ use Rattle.rules.specs.Limits.{cycleCap}
 use Rattle.rules.specs.Cycles as R
 use Rattle.rules.specs.Cycles.{calleeWhole}
 use Rattle.rules.proofs.Flags.{both}
-use Rattle.rules.proofs.Callees.{callees-free}
+use Rattle.rules.proofs.Callees.{other-charged, callees-free}
 use Rattle.rows.specs.Tree.{treeOf}
 use Rattle.cycles.specs.Answers.{chunkOf}
 use Rattle.cycles.specs.Entry.{rangeCost}
-use Rattle.lines.specs.Costs.{callsNone, bothCosts}
-use Rattle.lines.specs.Costs as S
+use Rattle.lines.specs.Costs.{bothAre, callsNone, bothCosts}
 
 -- the ops from i on, behind others of which `none` tells whether one is a Call
 module _ (ops : List ℕ) (i : ℕ) (none : Bool) where
@@ -34,14 +32,12 @@ module _ (ops : List ℕ) (i : ℕ) (none : Bool) where
   unfolding callsNone
   none-next lt = rw (drop-cons ops i 0 lt, add-one i) (sym (and-assoc none (not (eqb (kind (getD ops i 0)) K.Call)) (callsNone (drop (suc i) ops))))
 
--- a word that is no Call is charged for no callee
-free-word : (wholes : List ℕ) (w : ℕ) → not (eqb (kind w) K.Call) ≡ true → calleeWhole wholes w ≡ 0
-free-word wholes w h = rw (not-true (eqb (kind w) K.Call) h)
-
+-- ops none of which is a Call are charged for no callee
 free-ops : (wholes ops : List ℕ) → callsNone ops ≡ true → (i : ℕ) → calleeWhole wholes (opAt ops i) ≡ 0
 unfolding callsNone
 free-ops wholes [] h i = refl
-free-ops wholes (w ∷ ops) h zero = free-word wholes w (both (not (eqb (kind w) K.Call)) (callsNone ops) h .0)
+free-ops wholes (w ∷ ops) h zero =
+    other-charged wholes w (eqb-false (kind w) K.Call (not-true (eqb (kind w) K.Call) (both (not (eqb (kind w) K.Call)) (callsNone ops) h .0)))
 free-ops wholes (w ∷ ops) h (suc i) = free-ops wholes ops (both (not (eqb (kind w) K.Call)) (callsNone ops) h .1) i
 
 module _ (constants ops extras wholes : List ℕ) (from to : ℕ) where
@@ -51,11 +47,11 @@ module _ (constants ops extras wholes : List ℕ) (from to : ℕ) where
 
   module _ {k : R.Cost} (walked : ok k ≡ rangeCost (chunkOf constants ops extras) [] from to) where
     -- the second walk is left out
-    pub walked-once : callsNone ops ≡ true → ok (S.both (k .cycles) (k .cycles)) ≡ bothCosts (chunkOf constants ops extras) wholes from to
+    pub walked-once : callsNone ops ≡ true → ok (bothAre (k .cycles) (k .cycles)) ≡ bothCosts (chunkOf constants ops extras) wholes from to
     walked-once h =
         let same = callees-free (chunkOf constants ops extras) wholes (free-ops wholes ops h) cycleCap (treeOf (opAt ops) from to) in
         rw (same, ← walked)
 
     pub walked-twice : {x : Result R.Cost} → x ≡ rangeCost (chunkOf constants ops extras) wholes from to
-        → andThen x (λ w. ok (S.both (k .cycles) (w .cycles))) ≡ bothCosts (chunkOf constants ops extras) wholes from to
+        → andThen x (λ w. ok (bothAre (k .cycles) (w .cycles))) ≡ bothCosts (chunkOf constants ops extras) wholes from to
     walked-twice e = rw (← walked, e)

@@ -21,14 +21,14 @@ use Rattle.cycles.proofs.EntryLaws.{range-cost}
 use Rattle.stack.specs.Answers.{partsStack}
 use Rattle.stack.proofs.EntryLaws.{whole-stack}
 use Rattle.lines.specs.declared.costs.Both.{Both}
-use Rattle.lines.specs.Costs.{both, bothCosts}
+use Rattle.lines.specs.Costs.{bothAre, bothCosts}
 
 -- a line from both figures of the cycle walks and the stack walk's
 abbrev pub lineWith : Both → T.Stack → S.Line
 lineWith b s = lineOf (R.costs (b .cycles) false R.unbroken) (R.costs (b .whole) false R.unbroken) s
 
 regroup : (x w : Result R.Cost) (y : Result T.Stack)
-    → andThen (andThen x (λ k. andThen w (λ f. ok (both (k .cycles) (f .cycles))))) (λ b. andThen y (λ s. ok (lineWith b s)))
+    → andThen (andThen x (λ k. andThen w (λ f. ok (bothAre (k .cycles) (f .cycles))))) (λ b. andThen y (λ s. ok (lineWith b s)))
     ≡ andThen x (λ k. andThen w (λ f. andThen y (λ s. ok (lineOf k f s))))
 regroup (ok k) (ok f) y = refl
 regroup (ok k) (no n p) y = refl

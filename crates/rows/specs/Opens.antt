@@ -66,15 +66,15 @@ Opens ops i to (IfElse e f) = ElseAt (opAt ops) true i to e f
 Opens ops i to (Loop e) = LoopAt (opAt ops) true i to e
 
 -- a word is a Call of this chunk, or it is no Call
-abbrev pub Calls : ℕ → Block → Type 0
-Calls w Plain = kind w ≡ K.Call → ⊥
-Calls w (Call k) = (kind w ≡ K.Call) × (fieldA w ≡ k)
-Calls w Ends = kind w ≡ K.Call → ⊥
-Calls w Break = kind w ≡ K.Call → ⊥
-Calls w BreakIf = kind w ≡ K.Call → ⊥
-Calls w (If t) = kind w ≡ K.Call → ⊥
-Calls w (IfElse e f) = kind w ≡ K.Call → ⊥
-Calls w (Loop e) = kind w ≡ K.Call → ⊥
+abbrev pub TellsCall : ℕ → Block → Type 0
+TellsCall w Plain = kind w ≡ K.Call → ⊥
+TellsCall w (Call k) = (kind w ≡ K.Call) × (fieldA w ≡ k)
+TellsCall w Ends = kind w ≡ K.Call → ⊥
+TellsCall w Break = kind w ≡ K.Call → ⊥
+TellsCall w BreakIf = kind w ≡ K.Call → ⊥
+TellsCall w (If t) = kind w ≡ K.Call → ⊥
+TellsCall w (IfElse e f) = kind w ≡ K.Call → ⊥
+TellsCall w (Loop e) = kind w ≡ K.Call → ⊥
 
 -- a row stands from i up to `to`, inside the ops
 pub record RowFits (ops : List ℕ) (i to : ℕ) : Type 0 where

@@ -3,7 +3,7 @@ use words::fields;
 use words::kinds;
 ghost use Prim.Native.Nat.{ℕ};
 ghost use lib.ListN.{getD};
-ghost use Rattle.rows.specs.Opens.{Opens, Calls, StepFits};
+ghost use Rattle.rows.specs.Opens.{Opens, TellsCall, StepFits};
 
 // An op that is passed over, a Call by its callee, one that ends the row, a break, or a block by the positions of its ends.
 pub enum Block {
@@ -24,7 +24,7 @@ pub enum Block {
 pub fn block_at(ops: &[u32], i: usize) -> Block
     requires { ⌜ ((to : ℕ) × StepFits (now ops) i to) ⌝ }
     ensures opens { λ r. ⌜ ((to : ℕ) → StepFits (now (ops .entry)) i to → Opens (now (ops .entry)) i to r) ⌝ }
-    ensures calls { λ r. ⌜ Calls (getD (now (ops .entry)) i 0) r ⌝ }
+    ensures calls { λ r. ⌜ TellsCall (getD (now (ops .entry)) i 0) r ⌝ }
 {
     let w = ops[i];
     let k = w / fields::KIND_UNIT;

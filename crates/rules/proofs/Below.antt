@@ -2,12 +2,12 @@
 -- one figure at most the other, or both refuse alike. Assumes nothing.
 use mathlib.Core.Path.{_≡_, refl}
 use mathlib.Core.Bool.{Bool, true, false, _&&_}
-use Prim.Native.Nat.{ℕ, zero, suc, _+_, _*_, _≤_, max}
+use Prim.Native.Nat.{ℕ, zero, suc, _+_, _*_, _≤_}
 use native.Mathlib.Nat.{mul-zero, mul-suc}
 use native.Mathlib.Omega.{arith}
 use Rattle.rules.specs.Outcome.{Result, ok, no, andThen}
 use Rattle.rules.specs.Rows.{Row, end, step, stop, leave, leaveIf, ifThen, ifElse, loop}
-use Rattle.rules.specs.Cycles.{Breaks, unbroken, costliest, noteBreak, breakCost, Cost, costs, inner, unlessEnds, onePass, passesCost, rowCost}
+use Rattle.rules.specs.Cycles.{Breaks, unbroken, costliest, noteBreak, breakCost, Cost, inner, unlessEnds, onePass, passesCost, rowCost}
 
 module _ {A : Type 0} (Less : A → A → Type 0) where
   -- both answer, the first below the second, or both refuse alike

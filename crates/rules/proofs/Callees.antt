@@ -5,6 +5,7 @@ use mathlib.Core.Bool.{Bool, true, false, cond}
 use mathlib.Core.List.{List, []}
 use Prim.Native.Nat.{ℕ, _+_, _<_, _≤_, min}
 use native.Mathlib.Omega.{arith}
+use borrow.Author.Tests.{ne-eqb}
 use lib.Dec.{eqb}
 use lib.ListN.{length, getD}
 use Rattle.rules.specs.Kinds as K
@@ -33,6 +34,13 @@ none-charged w = go (eqb (kind w) K.Call)
     go : (b : Bool) → cond {A = ℕ} b (getD [] (fieldA w) 0) 0 ≡ 0
     go true = refl
     go false = refl
+
+-- a Call is charged its callee's figure, any other op none
+pub call-charged : (wholes : List ℕ) (w k : ℕ) → kind w ≡ K.Call → fieldA w ≡ k → calleeWhole wholes w ≡ getD wholes k 0
+call-charged wholes w k e same = simp (e, same)
+
+pub other-charged : (wholes : List ℕ) (w : ℕ) → (kind w ≡ K.Call → ⊥) → calleeWhole wholes w ≡ 0
+other-charged wholes w n = rw (ne-eqb (kind w) K.Call n)
 
 module _ (c : Chunk) (wholes : List ℕ) where
   charge-below : (i : ℕ) → Below lessN (chargeOf c [] i) (chargeOf c wholes i)

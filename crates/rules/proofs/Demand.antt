@@ -1,12 +1,10 @@
 -- Demand 3: of an accepted module's sheet, every path's cycles and, callees run, stack bytes are bounded by its line.
 -- Assumes nothing.
-use mathlib.Core.Path.{_≡_, refl, ap}
+use mathlib.Core.Path.{ap}
 use mathlib.Core.List.{[]}
-use Prim.Native.Nat.{ℕ, min}
 use native.Mathlib.Omega.{arith}
-use Rattle.rules.specs.Outcome.{Result, ok, no}
 use Rattle.rules.specs.Limits.{cycleCap}
-use Rattle.rules.specs.Cycles.{Cost, exactCost}
+use Rattle.rules.specs.Cycles.{exactCost}
 use Rattle.rules.specs.Order.{chunkAt}
 use Rattle.rules.specs.Sheet.{Line}
 use Rattle.rules.specs.Claims.{CyclesBounded, StackBounded, WholeBounded}

@@ -16,7 +16,7 @@ use Rattle.rules.proofs.Mapped.{map-alike, map-set}
 use Rattle.rules.proofs.Below.{Below}
 use Rattle.rules.proofs.Callees.{Fewer, callees-add}
 
--- a line, the lines and the sheet of document 01
+-- a line, the lines and the sheet of document 01, without whole figures
 pub record BaseLine : Type 0 where
   pub cycles : ℕ
   pub peak : ℕ
@@ -25,22 +25,22 @@ pub record BaseLine : Type 0 where
 abbrev baseOf : Cost → Stack → BaseLine
 baseOf k s = record { cycles = k .cycles; peak = s .peak; bytes = s .bytes }
 
-abbrev pub baseLine : Chunk → List ℕ → Result BaseLine
-baseLine c callees = andThen (chunkRow c) (λ r. andThen (cappedCost cycleCap c [] r) (λ k. andThen (rowStack c callees r) (λ s. ok (baseOf k s))))
+abbrev pub lineWithout : Chunk → List ℕ → Result BaseLine
+lineWithout c callees = andThen (chunkRow c) (λ r. andThen (cappedCost cycleCap c [] r) (λ k. andThen (rowStack c callees r) (λ s. ok (baseOf k s))))
 
-unfoldable pub baseLines : List ℕ → List Chunk → List BaseLine → Outcome (List BaseLine)
-baseLines [] cs lines = answer lines
-baseLines (c ∷ order) cs lines =
-    followedBy (inChunk c (baseLine (chunkAt cs c) (map (λ l. l .bytes) lines))) (λ l. baseLines order cs (set lines c l))
+unfoldable pub linesWithout : List ℕ → List Chunk → List BaseLine → Outcome (List BaseLine)
+linesWithout [] cs lines = answer lines
+linesWithout (c ∷ order) cs lines =
+    followedBy (inChunk c (lineWithout (chunkAt cs c) (map (λ l. l .bytes) lines))) (λ l. linesWithout order cs (set lines c l))
 
 pub record BaseSheet : Type 0 where
   pub order : List ℕ
   pub lines : List BaseLine
 
-abbrev pub baseSheet : List Chunk → Outcome BaseSheet
-baseSheet cs =
+abbrev pub sheetWithout : List Chunk → Outcome BaseSheet
+sheetWithout cs =
     followedBy (ringOutcome (callOrder cs))
-    (λ order. followedBy (baseLines order cs (replicate (length cs) (record { cycles = 0; peak = 0; bytes = 0 })))
+    (λ order. followedBy (linesWithout order cs (replicate (length cs) (record { cycles = 0; peak = 0; bytes = 0 })))
     (λ lines. answer (record { order = order; lines = lines })))
 
 -- what stays of a line, and of a sheet
@@ -50,7 +50,7 @@ rest l = record { cycles = l .cycles; peak = l .peak; bytes = l .bytes }
 abbrev pub restOf : Sheet → BaseSheet
 restOf s = record { order = s .order; lines = map rest (s .lines) }
 
-line-stays : (c : Chunk) (callees wholes : List ℕ) → andThen (chunkLine c callees wholes) (λ l. ok (rest l)) ≡ baseLine c callees
+line-stays : (c : Chunk) (callees wholes : List ℕ) → andThen (chunkLine c callees wholes) (λ l. ok (rest l)) ≡ lineWithout c callees
 line-stays c callees wholes = by-row (chunkRow c)
   where
     by-stack : (k w : Cost) (x : Result Stack) → andThen (andThen x (λ s. ok (lineOf k w s))) (λ l. ok (rest l)) ≡ andThen x (λ s. ok (baseOf k s))
@@ -75,22 +75,22 @@ rest-bytes [] = refl
 rest-bytes (x ∷ ls) = ap (λ (bs : List ℕ). x .bytes ∷ bs) (rest-bytes ls)
 
 module _ (cs : List Chunk) where
-  lines-stay : (order : List ℕ) (ls : List Line) → followedBy (linesIn order cs ls) (λ ms. answer (map rest ms)) ≡ baseLines order cs (map rest ls)
-  unfolding linesIn baseLines
+  lines-stay : (order : List ℕ) (ls : List Line) → followedBy (linesIn order cs ls) (λ ms. answer (map rest ms)) ≡ linesWithout order cs (map rest ls)
+  unfolding linesIn linesWithout
   lines-stay [] ls = refl
   lines-stay (c ∷ order) ls =
       by-line (chunkLine (chunkAt cs c) (bytesList ls) (wholeList ls))
-      (line-stays (chunkAt cs c) (bytesList ls) (wholeList ls) ∙ ap (λ (bs : List ℕ). baseLine (chunkAt cs c) bs) (sym (rest-bytes ls)))
-      (λ l. lines-stay order (set ls c l) ∙ ap (λ (ms : List BaseLine). baseLines order cs ms) (map-set rest ls c l))
+      (line-stays (chunkAt cs c) (bytesList ls) (wholeList ls) ∙ ap (λ (bs : List ℕ). lineWithout (chunkAt cs c) bs) (sym (rest-bytes ls)))
+      (λ l. lines-stay order (set ls c l) ∙ ap (λ (ms : List BaseLine). linesWithout order cs ms) (map-set rest ls c l))
     where
-      by-line : (x : Result Line) → andThen x (λ l. ok (rest l)) ≡ baseLine (chunkAt cs c) (map (λ m. m .bytes) (map rest ls))
-          → ((l : Line) → followedBy (linesIn order cs (set ls c l)) (λ ms. answer (map rest ms)) ≡ baseLines order cs (set (map rest ls) c (rest l)))
+      by-line : (x : Result Line) → andThen x (λ l. ok (rest l)) ≡ lineWithout (chunkAt cs c) (map (λ m. m .bytes) (map rest ls))
+          → ((l : Line) → followedBy (linesIn order cs (set ls c l)) (λ ms. answer (map rest ms)) ≡ linesWithout order cs (set (map rest ls) c (rest l)))
           → followedBy (followedBy (inChunk c x) (λ l. linesIn order cs (set ls c l))) (λ ms. answer (map rest ms))
-          ≡ followedBy (inChunk c (baseLine (chunkAt cs c) (map (λ m. m .bytes) (map rest ls)))) (λ l. baseLines order cs (set (map rest ls) c l))
+          ≡ followedBy (inChunk c (lineWithout (chunkAt cs c) (map (λ m. m .bytes) (map rest ls)))) (λ l. linesWithout order cs (set (map rest ls) c l))
       by-line (ok l) e next = rw (← e) (next l)
       by-line (no n p) e next = rw (← e)
 
-  pub sheet-stays : followedBy (sheetOf cs) (λ s. answer (restOf s)) ≡ baseSheet cs
+  pub sheet-stays : followedBy (sheetOf cs) (λ s. answer (restOf s)) ≡ sheetWithout cs
   sheet-stays = by-order (ringOutcome (callOrder cs))
     where
       by-lines : (order : List ℕ) (x : Outcome (List Line))
@@ -102,10 +102,10 @@ module _ (cs : List Chunk) where
       by-order : (x : Outcome (List ℕ))
           → followedBy (followedBy x (λ order. followedBy (linesIn order cs (replicate (length cs) noLine))
           (λ lines. answer (record { order = order; lines = lines })))) (λ s. answer (restOf s))
-          ≡ followedBy x (λ order. followedBy (baseLines order cs (replicate (length cs) (rest noLine)))
+          ≡ followedBy x (λ order. followedBy (linesWithout order cs (replicate (length cs) (rest noLine)))
           (λ lines. answer (record { order = order; lines = lines })))
       by-order (answer order) =
           by-lines order (linesIn order cs (replicate (length cs) noLine))
           ∙ ap (λ (x : Outcome (List BaseLine)). followedBy x (λ ms. answer (record { order = order; lines = ms })))
-          (lines-stay order (replicate (length cs) noLine) ∙ ap (λ (ms : List BaseLine). baseLines order cs ms) (map-alike rest (length cs) noLine))
+          (lines-stay order (replicate (length cs) noLine) ∙ ap (λ (ms : List BaseLine). linesWithout order cs ms) (map-alike rest (length cs) noLine))
       by-order (refused n c p) = refl

@@ -1,28 +1,27 @@
 -- The claim `WholeBounded`: with callees run, every path through a chunk that keeps its loops' counts costs, up to the cap, at most its line's whole figure. By
 -- induction along the call order: a Call's fee has room for its callee, whatever callers are behind. Assumes nothing.
-use mathlib.Core.Path.{_≡_, refl, sym, ap, _∙_}
+use mathlib.Core.Path.{_≡_, refl, ap, _∙_}
 use mathlib.Core.Bool.{Bool, true, false}
 use mathlib.Core.List.{List, [], _∷_, _++_, append-assoc}
-use Prim.Native.Nat.{ℕ, zero, suc, _+_, _≤_, _<_, min}
+use Prim.Native.Nat.{ℕ, zero, suc, _+_, _<_}
 use native.Mathlib.Omega.{arith}
 use borrow.Author.Tests.{ltb-true}
 use lib.Dec.{ltb}
 use lib.IntN.{pos}
 use lib.ListN.{length, getD, length-append}
-use Rattle.rules.specs.Kinds as K
 use Rattle.rules.specs.Limits.{cycleCap}
 use Rattle.rules.specs.Outcome.{answer}
-use Rattle.rules.specs.Ops.{kind, fieldA, opAt}
 use Rattle.rules.specs.Form.{Chunk}
 use Rattle.rules.specs.Rows.{calls, shapeOf, Plain}
-use Rattle.rules.specs.Cycles.{calleeWhole, exactCost}
+use Rattle.rules.specs.Cycles.{exactCost}
 use Rattle.rules.specs.Order.{callOrder, chunkAt, Calls, Ordered}
 use Rattle.rules.specs.Sheet.{Line, noLine, Sheet, sheetOf, ringOutcome}
-use Rattle.rules.specs.Paths.{Way, Entry, Frame, rangeAt, movedTo, settle, returned, calleeFrame, goBy, go, begin, path, opCycles, pathCycles}
+use Rattle.rules.specs.Paths.{Entry, Frame, rangeAt, movedTo, returned, go, begin, path, opCycles}
 use Rattle.rules.specs.Claims.{WholeBounded}
 use Rattle.rules.proofs.Answers.{from-answer}
 use Rattle.rules.proofs.Shapes.{shape-tells, by-plain}
 use Rattle.rules.proofs.Capped.{capped-from, chunk-capped}
+use Rattle.rules.proofs.Callees.{call-charged}
 use Rattle.rules.proofs.CallOrder.{order-sound}
 use Rattle.rules.proofs.SheetLines.{LineOf, split, from-listing, sheet-lines, accepted-sheet}
 use Rattle.rules.proofs.ChunkTop.{called}
@@ -30,9 +29,6 @@ use Rattle.rules.proofs.Walked.{feeOf, chunk-walked}
 use Rattle.rules.proofs.Moves.{placed, opIn}
 use Rattle.rules.proofs.Safe.{over-safe, settled, more}
 use Rattle.rules.proofs.CyclesBound.{Kept, SafeRun, Before, ChargedAs, keeps, prices, chunk-safe, plain-passed}
-
-callee-fee : (wholes : List ℕ) (w k : ℕ) → kind w ≡ K.Call → fieldA w ≡ k → calleeWhole wholes w ≡ getD wholes k 0
-callee-fee wholes w k e same = simp (e, same)
 
 module _ (cs : List Chunk) (s : Sheet) (answered : sheetOf cs ≡ answer s) where
   abbrev wholeOf : ℕ → ℕ
@@ -52,7 +48,7 @@ module _ (cs : List Chunk) (s : Sheet) (answered : sheetOf cs ≡ answer s) wher
     call-passed k gs z i n es back e inside next d b =
         let w = shape-tells (opIn cs c i) (calls k) e in
         let known : Calls cs c k = (ltb-true k (length cs) inside, rw (w .1) at (called (chunkAt cs c .ops) i (w .0))) in
-        let room = callee-fee (l .wholes) (opIn cs c i) k (w .0) (w .1) ∙ l .known-whole k known in
+        let room = call-charged (l .wholes) (opIn cs c i) k (w .0) (w .1) ∙ l .known-whole k known in
         settled cs true cycleCap (opCycles cs) (Kept cs) (placed c i d b es) gs (fee i + n + z)
         (λ kept v ws keep.
         let a : SafeRun cs true cycleCap (go cs true (placed c i d b es) gs v) (wholeOf k + (n + z)) =
@@ -70,8 +66,8 @@ module _ (cs : List Chunk) (s : Sheet) (answered : sheetOf cs ≡ answer s) wher
         by k e true inside = call-passed k gs z i n es back e inside next
         by k e false outside = plain-passed cs true cycleCap c fee gs z i n es back (λ d b w. rw (e, outside)) (λ d b. omega arith) next
 
-    charged : ChargedAs cs true cycleCap fee c
-    charged =
+    whole-charged : ChargedAs cs true cycleCap fee c
+    whole-charged =
         record {
           own = λ i d b es. omega arith;
           passed = passed;
@@ -84,7 +80,7 @@ module _ (cs : List Chunk) (s : Sheet) (answered : sheetOf cs ≡ answer s) wher
         let (e, exact, cut) = capped-from cycleCap (exactCost (chunkAt cs c) (l .wholes) (l .row)) (l .full)
         (rw (chunk-capped cycleCap (chunkAt cs c) (l .wholes) (l .row)) at (l .charged)) in
         let safe =
-        chunk-safe cs true cycleCap fee c (l .row) e (l .is-row) (chunk-walked (chunkAt cs c) (l .wholes) (l .row) e exact) charged gs z back d b ways keep in
+        chunk-safe cs true cycleCap fee c (l .row) e (l .is-row) (chunk-walked (chunkAt cs c) (l .wholes) (l .row) e exact) whole-charged gs z back d b ways keep in
         let figure = ap (λ (x : Line). x .whole) (l .line) in
         omega (arith, safe, cut, figure)
 
@@ -97,8 +93,8 @@ module _ (cs : List Chunk) (s : Sheet) (answered : sheetOf cs ≡ answer s) wher
       let size = ap (λ (x : List ℕ). length x) e ∙ length-append us (k ∷ vs) in
       along order good n us (vs ++ (c ∷ ys)) k (place ∙ ap (λ (x : List ℕ). x ++ (c ∷ ys)) e ∙ append-assoc us (k ∷ vs) (c ∷ ys)) (omega (arith, size)) (known .0))
 
-  bounded : (c : ℕ) → c < length cs → Bounded c
-  bounded c h =
+  every-chunk : (c : ℕ) → c < length cs → Bounded c
+  every-chunk c h =
       let a = from-answer (ringOutcome (callOrder cs)) _ answered in
       let good = order-sound cs (a .0) (from-listing (callOrder cs) (a .1)) in
       let (us, vs, e) = split c (a .0) (good .every c h) in
@@ -106,5 +102,5 @@ module _ (cs : List Chunk) (s : Sheet) (answered : sheetOf cs ≡ answer s) wher
 
 pub whole-bounded : WholeBounded
 whole-bounded words room cs s accepted c lt ways kept =
-    let safe = bounded cs s (accepted-sheet accepted) c lt [] 0 (over-safe cs true cycleCap (opCycles cs) (Kept cs) 0) (pos 0) (pos 0) in
+    let safe = every-chunk cs s (accepted-sheet accepted) c lt [] 0 (over-safe cs true cycleCap (opCycles cs) (Kept cs) 0) (pos 0) (pos 0) in
     omega (arith, prices cs (path cs true (begin cs c) ways), safe ways (keeps cs true cycleCap (begin cs c) ways kept))

@@ -56,10 +56,12 @@ abbrev pub doubled : ℕ → List ℕ
 doubled zero = 0 ∷ []
 doubled (suc k) = 20 * (2 ^ suc k - 1) ∷ doubled k
 
+-- and their cycles
 abbrev pub twoCalls : ℕ → List ℕ
 twoCalls zero = 0 ∷ []
 twoCalls (suc n) = 20 ∷ twoCalls n
 
+-- Request 2.1 sentence by sentence (docs/DECISIONS.md has the readings by number): which figure, which Calls, callees outside, the cap, open text, blocks, tray
 abbrev pub shared : List Case
 shared =
     record {

@@ -4,7 +4,7 @@ use mathlib.Core.Path.{_≡_, sym, ap, _∙_}
 use borrow.Author.Needs.{needs}
 use Rattle.rules.specs.Outcome.{ok, andThen}
 use Rattle.cycles.specs.Answers.{chunkOf, walkResult}
-use Rattle.lines.specs.Costs.{both, bothCosts}
+use Rattle.lines.specs.Costs.{bothAre, bothCosts}
 use Rattle.lines.proofs.CostLaws.{first-refused, walked-once, walked-twice}
 use Rattle.lines.proofs.costs.chunk_costs.Statement.{statement}
 use Rattle.lines.proofs.costs.chunk_costs.Tie as tie
@@ -28,7 +28,7 @@ returns-2 c =
 twice : (v : tie.After-wcet-region2) →
     let k = v .before .before .before .before in
     let a = k .before .before .before .before .before .before .before .before .args in
-    andThen (walkResult (v .wcet-region2 .result)) (λ w. ok (both (k .walk .given .0 .0 .cycles) (w .cycles)))
+    andThen (walkResult (v .wcet-region2 .result)) (λ w. ok (bothAre (k .walk .given .0 .0 .cycles) (w .cycles)))
     ≡ bothCosts (chunkOf (a .constants .now) (a .ops .now) (a .extras .now)) (a .wholes .now) (a .from) (a .to)
 twice v =
     let k = v .before .before .before .before in
