@@ -1,8 +1,9 @@
 /* The proved functions for C and C++. Link the archive that `rt staticlib exports` writes; it is for x86-64 Linux.
  *
- * Every function takes filed words, document 01's 32-bit words in the machine's byte order, and returns one number: its answer, or a refusal.
+ * Every function but pm_write takes filed words, document 01's 32-bit words in the machine's byte order; pm_write takes the parts of a module and writes
+ * these words. Each returns one number: its answer, or a refusal.
  *
- * A refusal is packed alike by all: its number (1 to 13) in the highest 8 bits, its chunk in the next 24, its place in the lowest 32. No answer
+ * A refusal is packed alike by all: its number (1 to 14) in the highest 8 bits, its chunk in the next 24, its place in the lowest 32. No answer
  * reaches the highest 8 bits, so that a packed value is a refusal if and only if they are not 0. Chunk and place of a refusal are kept whole but where
  * a caller hands in more than they have room for: the chunk is kept modulo 2^24, so that refusal 12 for chunk 16,777,216 reads as chunk 0, and a place
  * modulo 2^32.
@@ -29,13 +30,18 @@
 /* The values of a stack walk: peak in slots, delta, stack bytes. */
 #define PM_HEIGHT 3
 
+/* The numbers of a chunk, of a constant and of an op in the lists that pm_write is lent. An extra is one number. */
+#define PM_LENT_CHUNK 5
+#define PM_LENT_CONSTANT 3
+#define PM_LENT_OP 3
+
 /* Set in the answer of pm_cycles where the row ends; the cycles are the 32 bits below. */
 #define PM_ENDS ((uint64_t)1 << 32)
 
 /* Whether a packed value is a refusal. */
 static inline int pm_is_refusal(uint64_t packed) { return packed >> 56 != 0; }
 
-/* The number of a refusal, 1 to 13. */
+/* The number of a refusal, 1 to 14. */
 static inline uint32_t pm_number(uint64_t refusal) { return (uint32_t)(refusal >> 56); }
 
 /* The chunk of a refusal, modulo 2^24. */
@@ -66,6 +72,17 @@ uint64_t pm_order(const uint32_t *words, size_t length, uint32_t *tray, size_t r
 
 /* The module sheet into the tray, PM_ROW values a chunk by chunk index: how many chunks have their values there. What lies beyond them is left. */
 uint64_t pm_sheet(const uint32_t *words, size_t length, uint32_t *tray, size_t room);
+
+/* The writer: the words of a module into the tray, PM_WORDS of room being enough for any; how many words stand there. What lies beyond them is left.
+ *
+ * The module is lent in four lists, whose lengths are counted in numbers. A chunk is its locals, its type, and how many constants, ops and extras are its
+ * own; a constant is 0 and the low and the high 32 bits of a two's complement integer, or 1, 0, 0 if it is no integer; an op is its kind, a and b. Chunk
+ * after chunk takes its own from the fronts of the last three lists. The extras of 0 at a chunk's end are dropped, before anything is counted.
+ *
+ * Refusal 14 where the lists hold no module (a count reaches past its list, something is left over, a constant has neither form) or a part does not fit,
+ * then 13 where the tray is shorter than the words: chunk 0, place 0. */
+uint64_t pm_write(const uint32_t *chunks, size_t chunk_numbers, const uint32_t *constants, size_t constant_numbers, const uint32_t *ops, size_t op_numbers,
+                  const uint32_t *extras, size_t extra_numbers, uint32_t *tray, size_t room);
 
 #ifdef __cplusplus
 }

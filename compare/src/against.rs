@@ -25,7 +25,10 @@ mod programs;
 mod questions;
 #[allow(dead_code)]
 mod random;
+#[allow(dead_code)]
 mod refusals;
+#[allow(dead_code)]
+mod rounds;
 mod store;
 mod table;
 #[allow(dead_code)]

@@ -54,7 +54,7 @@ fn field_a(word: u32) -> u16 {
 }
 
 /// "Field a: index, slot or target of 0, 1, 2, 21, 22, 24..27, 30, 64, 65; count of 34; code of 50."
-pub fn uses_a(kind: u8) -> bool {
+pub const fn uses_a(kind: u8) -> bool {
     matches!(
         kind,
         CONST..=SET_LOCAL
@@ -70,7 +70,7 @@ pub fn uses_a(kind: u8) -> bool {
 }
 
 /// The greatest b: the arguments of calls and the count of PopN are free, NewComposite has four kinds and GetIndex two; else it is not used.
-pub fn greatest_b(kind: u8) -> u8 {
+pub const fn greatest_b(kind: u8) -> u8 {
     match kind {
         CALL | POP_N | CALL_VERIFIED_NATIVE | CALL_EXTERNAL_NATIVE => 255,
         NEW_COMPOSITE => ENUM,

@@ -1,18 +1,27 @@
-//! Compares the proved reader with a plain Rust reading of the same words: the outcomes, then the times.
+//! Compares the proved reader and the proved writer with plain Rust, on the same words and on the same lent lists: the outcomes, then the times.
 mod form;
 #[allow(dead_code)]
 mod kinds;
+mod lists;
+mod measured;
+#[allow(dead_code)]
+mod picks;
+#[allow(dead_code)]
+mod pieces;
 #[allow(dead_code)]
 mod pinnaclemug;
 mod random;
 #[allow(dead_code)]
 mod refusals;
+mod rounds;
+mod shelf;
+mod shelved;
+mod writer;
 
 use form::{Chunk, Refusal, word};
 use kinds::*;
+use lists::Lists;
 use random::Random;
-use std::hint::black_box;
-use std::time::Instant;
 
 /// The Rust reading's outcome as the proved reader gives it: the chunk is 0 for every refusal.
 fn plain(reading: &Result<Vec<Chunk>, Refusal>) -> Result<usize, pinnaclemug::Refusal> {
@@ -26,17 +35,21 @@ fn plain(reading: &Result<Vec<Chunk>, Refusal>) -> Result<usize, pinnaclemug::Re
     }
 }
 
-/// How many lists were read, by the number of the outcome, and how many differed.
+/// How many lists were read, by the number of the outcome, and how many differed; and the counts of the writer.
 #[derive(Default)]
 struct Counts {
     by_number: [u64; 3],
     differences: u64,
+    shelf: shelf::Counts,
 }
 
 impl Counts {
-    /// Both sides on these words. What the Rust accepts also has to be the words again when it is written.
+    /// Both sides on these words. What the Rust accepts also has to be the words again when it is written, and goes through both writers.
     fn compare(&mut self, words: &[u32]) {
         let reading = form::read(words);
+        if let Ok(chunks) = &reading {
+            self.shelf.compare(&Lists::of(chunks));
+        }
         let (left, right) = (pinnaclemug::read(words), plain(&reading));
         if left != right || reading.is_ok_and(|chunks| form::write(&chunks) != words) {
             self.differences += 1;
@@ -138,47 +151,6 @@ fn random_lists(counts: &mut Counts, random: &mut Random) {
     }
 }
 
-/// Nanoseconds a word in one round of 50 readings.
-fn round<T>(words: &[u32], read: impl Fn(&[u32]) -> T) -> f64 {
-    let start = Instant::now();
-    for _ in 0..50 {
-        black_box(read(black_box(words)));
-    }
-    start.elapsed().as_nanos() as f64 / 50.0 / words.len() as f64
-}
-
-/// The fastest of 100 rounds for each side, in turns, so that neither has the quieter machine.
-fn times(words: &[u32]) -> (f64, f64) {
-    let mut best = (f64::MAX, f64::MAX);
-    for _ in 0..100 {
-        best.0 = best.0.min(round(words, pinnaclemug::read));
-        best.1 = best.1.min(round(words, form::read));
-    }
-    best
-}
-
-/// A whole module of so many equal chunks.
-fn timed(
-    name: &str,
-    random: &mut Random,
-    chunks: usize,
-    constants: usize,
-    ops: usize,
-    extras: usize,
-) {
-    let mut words = vec![word(MODULE, 0, chunks as u16)];
-    for _ in 0..chunks {
-        random.chunk(&mut words, constants, ops, extras);
-    }
-    assert_eq!(pinnaclemug::read(&words), Ok(chunks), "{name} is a module");
-    let (left, right) = times(&words);
-    println!(
-        "{name:<22} {:>6} {left:>10.2} {right:>10.2} {:>10.2}",
-        words.len(),
-        left / right
-    );
-}
-
 fn main() {
     let seed = std::env::args()
         .nth(1)
@@ -192,23 +164,20 @@ fn main() {
         every_damage(&mut counts, &random.module());
     }
     random_lists(&mut counts, &mut random);
-
+    shelf::all(&mut counts.shelf, &mut random);
+    let same = counts.differences == 0 && counts.shelf.differences == 0;
+    // Of sides that differ no times are taken.
+    if same {
+        measured::times(&mut random);
+    }
     println!(
-        "{:<22} {:>6} {:>10} {:>10} {:>10}",
-        "nanoseconds a word", "words", "proved", "Rust", "ratio"
-    );
-    timed("plain ops, one chunk", &mut random, 1, 0, 16_382, 0);
-    timed("256 chunks", &mut random, 256, 1, 50, 4);
-    timed("many constants", &mut random, 1, 4_095, 2, 0);
-    timed("many extras", &mut random, 1, 0, 5_460, 5_460);
-
-    println!(
-        "{} lists compared: {} accepted, {} refused by 1, {} refused by 2, {} differences",
+        "{} lists read: {} accepted, {} refused by 1, {} refused by 2, {} differences",
         counts.lists(),
         counts.by_number[0],
         counts.by_number[1],
         counts.by_number[2],
         counts.differences
     );
-    std::process::exit(if counts.differences == 0 { 0 } else { 1 });
+    counts.shelf.print();
+    std::process::exit(if same { 0 } else { 1 });
 }

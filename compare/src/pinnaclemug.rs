@@ -14,6 +14,18 @@ unsafe extern "C" {
     ) -> u64;
     fn pm_order(words: *const u32, length: usize, tray: *mut u32, room: usize) -> u64;
     fn pm_sheet(words: *const u32, length: usize, tray: *mut u32, room: usize) -> u64;
+    fn pm_write(
+        chunks: *const u32,
+        chunk_numbers: usize,
+        constants: *const u32,
+        constant_numbers: usize,
+        ops: *const u32,
+        op_numbers: usize,
+        extras: *const u32,
+        extra_numbers: usize,
+        tray: *mut u32,
+        room: usize,
+    ) -> u64;
 }
 
 /// The values of a chunk in a sheet's tray: cycles, peak, bytes and whole.
@@ -21,6 +33,11 @@ pub const ROW: usize = 4;
 
 /// The values that a stack walk leaves: peak, delta and bytes.
 pub const HEIGHT: usize = 3;
+
+/// The numbers of a chunk in the first of the lists that the writer is lent, and of a constant and of an op in theirs.
+pub const LENT_CHUNK: usize = 5;
+pub const LENT_CONSTANT: usize = 3;
+pub const LENT_OP: usize = 3;
 
 /// How many bits of a refusal its place has, and its chunk above it.
 const PLACE_BITS: u32 = 32;
@@ -39,6 +56,18 @@ pub struct Refusal {
 pub struct Cycles {
     pub cycles: u32,
     pub ends: bool,
+}
+
+/// A module's parts as the writer is lent them. Chunk after chunk takes its own from the fronts of the last three lists.
+#[derive(Clone, Copy, Debug)]
+pub struct Lent<'a> {
+    /// locals, type, and how many constants, ops and extras are the chunk's own
+    pub chunks: &'a [u32],
+    /// 0 and the low and the high 32 bits of an integer; or 1, 0, 0
+    pub constants: &'a [u32],
+    /// kind, a and b
+    pub ops: &'a [u32],
+    pub extras: &'a [u32],
 }
 
 /// An answer has none of the bits of a refusal's number.
@@ -111,4 +140,24 @@ pub fn sheet(words: &[u32], tray: &mut [u32]) -> Result<usize, Refusal> {
     // The words are lent for the call, and only read; the tray is handed over with its length.
     let packed = unsafe { pm_sheet(words.as_ptr(), words.len(), tray.as_mut_ptr(), tray.len()) };
     unpacked(packed).map(|chunks| chunks as usize)
+}
+
+/// The words of the lent parts into the tray: how many there are.
+pub fn write(lent: &Lent, tray: &mut [u32]) -> Result<usize, Refusal> {
+    // The four lists are lent for the call, and only read; the tray is handed over with its length.
+    let packed = unsafe {
+        pm_write(
+            lent.chunks.as_ptr(),
+            lent.chunks.len(),
+            lent.constants.as_ptr(),
+            lent.constants.len(),
+            lent.ops.as_ptr(),
+            lent.ops.len(),
+            lent.extras.as_ptr(),
+            lent.extras.len(),
+            tray.as_mut_ptr(),
+            tray.len(),
+        )
+    };
+    unpacked(packed).map(|words| words as usize)
 }

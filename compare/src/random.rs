@@ -66,6 +66,21 @@ impl Random {
         }
     }
 
+    /// A module of so many chunks, each of so many constants, ops and extras.
+    pub fn equal_chunks(
+        &mut self,
+        chunks: usize,
+        constants: usize,
+        ops: usize,
+        extras: usize,
+    ) -> Vec<u32> {
+        let mut words = vec![word(MODULE, 0, chunks as u16)];
+        for _ in 0..chunks {
+            self.chunk(&mut words, constants, ops, extras);
+        }
+        words
+    }
+
     /// A module in form: most are short, a few have up to 256 chunks.
     pub fn module(&mut self) -> Vec<u32> {
         let count = if self.below(200) == 0 {

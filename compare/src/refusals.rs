@@ -12,3 +12,4 @@ pub const RING: u32 = 10;
 pub const TOO_TALL: u32 = 11;
 pub const NO_SUCH_CHUNK: u32 = 12;
 pub const SHORT_TRAY: u32 = 13;
+pub const UNFIT_PART: u32 = 14;

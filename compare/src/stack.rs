@@ -1,30 +1,38 @@
-//! Finds how much machine stack the proved cycle walk, the proved module sheet and the program `sheet` take on the modules that go deepest. A trial of a call is
-//! a child process that makes it in a thread of so much stack; a trial of the program is its own process under `ulimit -s`. Where the stack is too small it
-//! ends by a signal.
+//! Finds how much machine stack the proved cycle walk, the proved module sheet, the proved writer and the programs `sheet` and `shelf` take on the modules that go
+//! deepest. A trial of a call is a child process that makes it in a thread of so much stack; a trial of a program is its own process under `ulimit -s`. Where the
+//! stack is too small it ends by a signal.
 #[allow(dead_code)]
 mod form;
 #[allow(dead_code)]
 mod kinds;
 #[allow(dead_code)]
+mod lists;
+#[allow(dead_code)]
+mod picks;
+#[allow(dead_code)]
 mod pieces;
 #[allow(dead_code)]
 mod pinnaclemug;
 #[allow(dead_code)]
+mod random;
+#[allow(dead_code)]
 mod refusals;
 
-use form::{MOST_CHUNKS, Op};
+use form::{Chunk, MOST_CHUNKS, MOST_WORDS, Op};
 use kinds::*;
+use lists::{Lists, chunks_of};
 use pieces::{chunk, chunk_l, header, op, ops, tail};
 use pinnaclemug::{Cycles, ROW, Refusal};
 use std::io::Write;
 use std::process::{Command, Stdio, exit};
 use std::thread;
 
-/// What is asked for, and what must be answered: the cycles of chunk 0, or how many lines the sheet has.
+/// What is asked for, and what must be answered: the cycles of chunk 0, how many lines the sheet has, or that all words are written from their lists.
 #[derive(Clone, Copy)]
 enum Asked {
     Cycles(Result<Cycles, Refusal>),
     Sheet(usize),
+    Written,
 }
 
 /// A module, what is asked, and what it shows.
@@ -138,16 +146,66 @@ fn cases() -> Vec<Case> {
         sheet("sheet: 256 blocks", module(ifs(0, 256, vec![])), 1),
         sheet("sheet: 7,925 copies in 255 blocks", module(deepest()), 1),
         sheet("sheet: 256 chunks in a chain", chain(), 256),
+        Case {
+            name: "writer: as many words as there may be",
+            words: form::write(&longest()),
+            asked: Asked::Written,
+        },
     ]
 }
 
-/// The modules that the program is run on.
-fn program_cases() -> [(&'static str, Vec<u32>); 3] {
+/// One chunk of as many ops as a module has room for.
+fn longest() -> [Chunk; 1] {
+    let yields = (0..MOST_WORDS - 2).map(|_| op(YIELD, 0, 0));
+    [chunk(FUNC, 0, &[], yields.collect())]
+}
+
+/// A program, what it reads and what it has to write.
+struct Run {
+    name: &'static str,
+    program: &'static str,
+    input: Vec<u8>,
+    output: Vec<u8>,
+}
+
+fn bytes(words: &[u32]) -> Vec<u8> {
+    words.iter().flat_map(|word| word.to_le_bytes()).collect()
+}
+
+fn sheet_run(name: &'static str, words: Vec<u32>) -> Run {
+    Run {
+        name,
+        program: "sheet",
+        input: bytes(&words),
+        output: printed(&words).into_bytes(),
+    }
+}
+
+/// The lists of the chunks with their lengths, and the words of the chunks.
+fn shelf_run(name: &'static str, chunks: &[Chunk]) -> Run {
+    let held = Lists::of(chunks);
+    let lent = held.lent();
+    let lists = [lent.chunks, lent.constants, lent.ops, lent.extras];
+    let mut numbers = vec![0];
+    numbers.extend(lists.map(|list| list.len() as u32));
+    numbers.extend(lists.concat());
+    Run {
+        name,
+        program: "shelf",
+        input: bytes(&numbers),
+        output: bytes(&form::write(chunks)),
+    }
+}
+
+fn runs() -> [Run; 5] {
     let deepest = module(copies(DEEPEST.0, DEEPEST.1));
+    let chunk_l = [chunk_l(&[0, 3, 1])];
     [
-        ("program: chunk L", form::write(&[chunk_l(&[0, 3, 1])])),
-        ("program: 256 chunks in a chain", chain()),
-        ("program: 7,925 copies in 255 blocks", deepest),
+        sheet_run("program sheet: chunk L", form::write(&chunk_l)),
+        sheet_run("program sheet: 256 chunks in a chain", chain()),
+        sheet_run("program sheet: 7,925 copies in 255 blocks", deepest),
+        shelf_run("program shelf: chunk L", &chunk_l),
+        shelf_run("program shelf: as many words as there may be", &longest()),
     ]
 }
 
@@ -155,10 +213,12 @@ fn program_cases() -> [(&'static str, Vec<u32>); 3] {
 fn trial(case: &Case, kib: usize) {
     let words = case.words.clone();
     let asked = case.asked;
-    let mut tray = vec![0; ROW * usize::from(MOST_CHUNKS)];
+    let mut tray = vec![0; MOST_WORDS];
+    let lists = Lists::of(&chunks_of(&words));
     let call = move || match asked {
         Asked::Cycles(answer) => pinnaclemug::cycles(&words, 0) == answer,
         Asked::Sheet(chunks) => pinnaclemug::sheet(&words, &mut tray) == Ok(chunks),
+        Asked::Written => pinnaclemug::write(&lists.lent(), &mut tray) == Ok(words.len()),
     };
     let thread = thread::Builder::new().stack_size(kib * 1024).spawn(call);
     let right = thread.expect("a thread starts").join().expect("it ends");
@@ -180,7 +240,7 @@ fn fits(number: usize, kib: usize) -> bool {
     }
 }
 
-/// What the program has to print: the lines of the proved sheet, in call order.
+/// What `sheet` has to print: the lines of the proved sheet, in call order.
 fn printed(words: &[u32]) -> String {
     let mut order = vec![0; usize::from(MOST_CHUNKS)];
     let mut tray = vec![0; ROW * usize::from(MOST_CHUNKS)];
@@ -195,18 +255,18 @@ fn printed(words: &[u32]) -> String {
     text
 }
 
-/// How often the program is run with a size before it counts as enough: where its stack begins is drawn anew at each start, by up to some KiB.
+/// How often a program is run with a size before it counts as enough: where its stack begins is drawn anew at each start, by up to some KiB.
 const RUNS: usize = 20;
 
-/// Whether the program prints this text with so much stack, at each of some runs. Its environment is empty, since that stands on the stack too.
-fn program_fits(words: &[u32], text: &str, kib: usize) -> bool {
-    let bytes: Vec<u8> = words.iter().flat_map(|word| word.to_le_bytes()).collect();
+/// Whether the program writes what it has to with so much stack, at each of some runs. Its environment is empty, since that stands on the stack too.
+fn program_fits(run: &Run, kib: usize) -> bool {
     (0..RUNS).all(|_| {
         let mut child = Command::new("/bin/sh")
             .args([
                 "-c",
-                "ulimit -s $0 && exec target/bin/sheet",
+                "ulimit -s $0 && exec target/bin/$1",
                 &kib.to_string(),
+                run.program,
             ])
             .env_clear()
             .stdin(Stdio::piped())
@@ -215,9 +275,9 @@ fn program_fits(words: &[u32], text: &str, kib: usize) -> bool {
             .spawn()
             .expect("a trial starts");
         // A program that has ended by a signal reads no more.
-        let _ = child.stdin.take().expect("its input").write_all(&bytes);
+        let _ = child.stdin.take().expect("its input").write_all(&run.input);
         let output = child.wait_with_output().expect("it ends");
-        output.status.success() && output.stdout == text.as_bytes()
+        output.status.success() && output.stdout == run.output
     })
 }
 
@@ -247,8 +307,7 @@ fn main() {
     for (number, case) in cases.iter().enumerate() {
         row(case.name, |kib| fits(number, kib));
     }
-    for (name, words) in program_cases() {
-        let text = printed(&words);
-        row(name, |kib| program_fits(&words, &text, kib));
+    for run in runs() {
+        row(run.name, |kib| program_fits(&run, kib));
     }
 }

@@ -4,19 +4,11 @@ use crate::case;
 use crate::classes::{self, Class, SEARCHING, chain, loops, plain};
 use crate::form::{self, Chunk};
 use crate::pinnaclemug::{self, Cycles, ROW};
+use crate::rounds::round;
 use crate::table;
 use crate::verify::oracle;
 use std::hint::black_box;
 use std::time::{Duration, Instant};
-
-/// Nanoseconds a word of one round.
-fn round<T>(words: &[u32], calls: usize, mut work: impl FnMut() -> T) -> f64 {
-    let start = Instant::now();
-    for _ in 0..calls {
-        black_box(work());
-    }
-    start.elapsed().as_nanos() as f64 / calls as f64 / words.len() as f64
-}
 
 /// The module as the original holds it, by the plain reading.
 fn parsed(words: &[u32]) -> Module {
@@ -48,9 +40,9 @@ fn timed<T, U>(
             break;
         }
         let met = [
-            round(words, calls, || ours(black_box(words))),
-            round(words, calls, || original(&parsed(black_box(words)))),
-            round(words, calls, || original(black_box(&module))),
+            round(words.len(), calls, || ours(black_box(words))),
+            round(words.len(), calls, || original(&parsed(black_box(words)))),
+            round(words.len(), calls, || original(black_box(&module))),
         ];
         for (held, time) in best.iter_mut().zip(met) {
             *held = held.min(time);

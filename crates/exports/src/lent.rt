@@ -7,10 +7,13 @@ use sheets::module::module_sheet;
 use stack::entry::StackAnswer;
 use stack::entry::stack_walk;
 use stack::height::Delta;
+use writer::entry::WriteAnswer;
+use writer::entry::write_module;
 ghost use mathlib.Core.Path.{_≡_};
 ghost use mathlib.Core.List.{[], _∷_};
 ghost use lib.IntN.{pos};
 ghost use lib.ListN.{length};
+ghost use Rattle.rules.specs.Writing.{writeOutcome, howMany, writeTray};
 ghost use Rattle.rules.specs.Sheet.{stackOutcome, orderOutcome, orderTray, sheetOutcome, sheetTray};
 ghost use Rattle.order.specs.Entry.{lengthOf};
 ghost use Rattle.sheets.specs.Module.{countOf};
@@ -79,6 +82,29 @@ pub extern "C" fn pm_sheet(words: &[u32], tray: &mut [u32]) -> u64
     match answer {
         SheetAnswer::Lines(n) => n as u64,
         SheetAnswer::Refused {
+            number,
+            chunk,
+            place,
+        } => pack_refusal(number, chunk, place),
+    }
+}
+
+// The words of the module that the four lists hold, into the tray: how many words stand there.
+#[no_mangle]
+pub extern "C" fn pm_write(
+    chunks: &[u32],
+    constants: &[u32],
+    ops: &[u32],
+    extras: &[u32],
+    tray: &mut [u32],
+) -> u64
+    ensures answer { λ r. ⌜ r ≡ packedNumber (howMany (writeOutcome (now (chunks .entry)) (now (constants .entry)) (now (ops .entry)) (now (extras .entry)) (length (now (tray .entry))))) ⌝ }
+    ensures written { λ r. ⌜ now (tray .exit) ≡ writeTray (writeOutcome (now (chunks .entry)) (now (constants .entry)) (now (ops .entry)) (now (extras .entry)) (length (now (tray .entry)))) (now (tray .entry)) ⌝ }
+{
+    let answer = write_module(chunks, constants, ops, extras, tray);
+    match answer {
+        WriteAnswer::Written(n) => n as u64,
+        WriteAnswer::Refused {
             number,
             chunk,
             place,

@@ -1,2 +1,3 @@
 pub mod LinesLaws
 pub mod TextLaws
+pub mod ShelfLaws

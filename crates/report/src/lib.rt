@@ -1,5 +1,6 @@
-// What the program `sheet` prints, from the bytes that it read.
+// What the program `sheet` prints, from the bytes that it read. The module `shelf` is of the program `shelf`.
 pub mod line;
+pub mod shelf;
 
 use line::HEADING;
 use line::LINE;

@@ -1,4 +1,4 @@
--- The cases of specs/Cases and specs/CalleeCases, each list as one checked list. Assumes nothing.
+-- The cases of specs/Cases, specs/CalleeCases and specs/WritingCases, each list as one checked list. Assumes nothing.
 use mathlib.Core.Path.{refl}
 use mathlib.Core.List.{flatMap}
 use Rattle.rules.specs.Ops.{inGroups}
@@ -9,9 +9,11 @@ use Rattle.rules.specs.Cycles.{rowCost}
 use Rattle.rules.specs.Stack.{rowHeight}
 use Rattle.rules.specs.Order.{member, calleesIn, visitEach, visit, upFrom}
 use Rattle.rules.specs.Sheet.{linesIn}
-use Rattle.rules.specs.Text.{wordsOf, digits, linesText}
-use Rattle.rules.specs.Cases.{AllHold, documented, settled, bytesIn}
+use Rattle.rules.specs.Text.{wordsOf, bytesIn, digits, linesText}
+use Rattle.rules.specs.Writing.{trimmed, every, heldConstants, heldOps, held}
+use Rattle.rules.specs.Cases.{AllHold, documented, settled}
 use Rattle.rules.specs.CalleeCases.{shared}
+use Rattle.rules.specs.WritingCases.{shelved}
 
 -- document 01's P cases
 pub documented-hold : AllHold documented
@@ -27,3 +29,8 @@ settled-hold = (refl, (refl, (refl, (refl, (refl, (refl, (refl, (refl, (refl, (r
 pub shared-hold : AllHold shared
 unfolding flatMap inGroups brokenAt takeWhile dropWhile constantsOf extrasOf chunksOf parse firstOf firstBackward lastSet arrayLength neverSets rowCost rowHeight member calleesIn visitEach visit upFrom linesIn wordsOf digits linesText bytesIn
 shared-hold = (refl, (refl, (refl, (refl, (refl, (refl, (refl, (refl, (refl, (refl, (refl, (refl, (refl, (refl, tt))))))))))))))
+
+-- the writer
+pub shelved-hold : AllHold shelved
+unfolding flatMap inGroups brokenAt takeWhile dropWhile constantsOf extrasOf chunksOf wordsOf digits bytesIn trimmed every heldConstants heldOps held
+shelved-hold = (refl, (refl, (refl, (refl, (refl, (refl, (refl, (refl, (refl, (refl, (refl, (refl, (refl, (refl, (refl, (refl, (refl, (refl, (refl, (refl, (refl, (refl, (refl, (refl, (refl, (refl, (refl, (refl, (refl, (refl, (refl, (refl, (refl, (refl, (refl, tt)))))))))))))))))))))))))))))))))))

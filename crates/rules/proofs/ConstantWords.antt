@@ -40,11 +40,11 @@ bits-small : (z : ℤ) → mag z < 2 ^ 63 → bits z < 2 ^ 64
 bits-small (pos n) h = omega arith
 bits-small (negsuc n) h = omega arith
 
-signed-bits : (z : ℤ) → mag z < 2 ^ 63 → signedOf (bits z) ≡ z
+pub signed-bits : (z : ℤ) → mag z < 2 ^ 63 → signedOf (bits z) ≡ z
 signed-bits (pos n) h = simp (lt-ltb n (2 ^ 63) h)
 signed-bits (negsuc n) h = simp (le-ltb (2 ^ 64 - suc n) (2 ^ 63) (omega arith)) (ap negsuc (omega arith))
 
-bits-signed : (n : ℕ) → n < 2 ^ 64 → (mag (signedOf n) < 2 ^ 63) × (bits (signedOf n) ≡ n)
+pub bits-signed : (n : ℕ) → n < 2 ^ 64 → (mag (signedOf n) < 2 ^ 63) × (bits (signedOf n) ≡ n)
 bits-signed n h = go (ltb n (2 ^ 63)) refl
   where
     go : (t : Bool) → ltb n (2 ^ 63) ≡ t → (mag (signedOf n) < 2 ^ 63) × (bits (signedOf n) ≡ n)

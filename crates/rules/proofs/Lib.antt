@@ -38,3 +38,7 @@ pub mod WholeBound
 pub mod Demand
 pub mod Witness
 pub mod CalleeWitness
+pub mod Every
+pub mod Trimmed
+pub mod Written
+pub mod Lent

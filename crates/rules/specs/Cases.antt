@@ -3,7 +3,7 @@
 use mathlib.Core.Path.{_≡_}
 use mathlib.Core.Bool.{Bool, true}
 use mathlib.Core.List.{List, [], _∷_}
-use Prim.Native.Nat.{ℕ, _-_, _/_, _%_, _^_}
+use Prim.Native.Nat.{ℕ, _-_, _^_}
 use Prim.Native.String.{String}
 use lib.IntN.{ℤ, pos, negsuc}
 use Rattle.rules.specs.Kinds as K
@@ -14,7 +14,7 @@ use Rattle.rules.specs.Form.{Constant, integer, other, Chunk, moduleWord
 use Rattle.rules.specs.Cycles.{Cycles}
 use Rattle.rules.specs.Stack.{Stack, Delta, offset, ends}
 use Rattle.rules.specs.Sheet.{Sheet, readOutcome, cyclesOutcome, stackOutcome, orderOutcome, lineWidth, sheetOutcome}
-use Rattle.rules.specs.Text.{textOf, sheetText}
+use Rattle.rules.specs.Text.{bytesIn, textOf, sheetText}
 
 -- a case: what it is called, and what it says
 pub record Case : Type 1 where
@@ -47,10 +47,6 @@ chunkL start stop step =
 -- a chunk alone as a module, in words and in bytes
 abbrev pub alone : Chunk → List ℕ
 alone c = moduleWords (c ∷ [])
-
-unfoldable pub bytesIn : List ℕ → List ℕ
-bytesIn [] = []
-bytesIn (w ∷ ws) = w % 256 ∷ w / 256 % 256 ∷ w / 65536 % 256 ∷ w / 16777216 ∷ bytesIn ws
 
 -- the sheet of a module of one chunk, whose cycles are its whole figure: it calls no chunk of the module
 abbrev pub one : ℕ → ℕ → ℕ → Outcome Sheet

@@ -12,7 +12,10 @@ pub mod Stack
 pub mod Order
 pub mod Sheet
 pub mod Text
+pub mod Writing
+pub mod Shelf
 pub mod Cases
 pub mod CalleeCases
+pub mod WritingCases
 pub mod Paths
 pub mod Claims

@@ -39,3 +39,7 @@ noSuchChunk = 12
 
 abbrev pub shortTray : ℕ
 shortTray = 13
+
+-- document 02's
+abbrev pub unfitPart : ℕ
+unfitPart = 14

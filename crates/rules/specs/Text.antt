@@ -19,6 +19,11 @@ wordsOf (a ∷ b ∷ []) = []
 wordsOf (a ∷ b ∷ c ∷ []) = []
 wordsOf (a ∷ b ∷ c ∷ d ∷ bytes) = (a + 256 * (b + 256 * (c + 256 * d))) ∷ wordsOf bytes
 
+-- the bytes of words, the lowest first
+unfoldable pub bytesIn : List ℕ → List ℕ
+bytesIn [] = []
+bytesIn (w ∷ ws) = w % 256 ∷ w / 256 % 256 ∷ w / 65536 % 256 ∷ w / 16777216 ∷ bytesIn ws
+
 -- the digits of a number, the last one being that of its remainder by ten; n digits are room enough for n
 abbrev pub onSmall : Bool → (ℕ → List ℕ) → ℕ → List ℕ
 onSmall true more n = (48 + n) ∷ []

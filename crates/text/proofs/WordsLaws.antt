@@ -1,14 +1,15 @@
--- The words of a list of bytes: how many they are, each by its index, and as they are written, one a turn.
+-- The words of a list of bytes: how many they are, each by its index, and as they are written, one a turn. The bytes of a list of
+-- words: how many they are, and what one word more adds.
 -- Assumes nothing.
 use mathlib.Core.Path.{_≡_, refl, sym}
-use mathlib.Core.List.{List, [], _∷_}
-use Prim.Native.Nat.{ℕ, zero, suc, _+_, _/_, _<_, _≤_}
+use mathlib.Core.List.{List, [], _∷_, _++_}
+use Prim.Native.Nat.{ℕ, zero, suc, _+_, _*_, _/_, _<_, _≤_}
 use native.Mathlib.Nat.{zero-add, mul-suc}
-use native.Mathlib.Numerals.{towards-suc}
+use native.Mathlib.Numerals.{add-one, towards-suc}
 use native.Mathlib.Omega.{arith}
 use lib.ListN.{length, getD, set, take}
-use lib.Seq.{take-all}
-use Rattle.rules.specs.Text.{wordsOf}
+use lib.Seq.{take-all, take-suc, length-take-le}
+use Rattle.rules.specs.Text.{wordsOf, bytesIn}
 use Rattle.text.specs.Paste.{pasted}
 use Rattle.text.specs.Words.{wordAt, WordsRead}
 use Rattle.text.proofs.PasteLaws.{pasted-front, pasted-beyond, pasted-more}
@@ -48,3 +49,20 @@ module _ (bytes words : List ℕ) (fits : length bytes / 4 ≤ length words) whe
         front = rw w (simp (zero-add, words-length bytes) at (pasted-front 0 (wordsOf bytes) words room));
         beyond = rw w (simp (zero-add, words-length bytes) at (pasted-beyond 0 (wordsOf bytes) words room));
       }
+
+pub bytes-length : (words : List ℕ) → length (bytesIn words) ≡ 4 * length words
+unfolding bytesIn
+bytes-length [] = refl
+bytes-length (w ∷ words) = omega (arith, bytes-length words)
+
+pub bytes-before : (i : ℕ) (words : List ℕ) → i ≤ length words → length (bytesIn (take i words)) ≡ 4 * i
+bytes-before i words h = rw (bytes-length (take i words), length-take-le i words h)
+
+pub bytes-append : (words more : List ℕ) → bytesIn (words ++ more) ≡ bytesIn words ++ bytesIn more
+unfolding bytesIn
+bytes-append [] more = refl
+bytes-append (w ∷ words) more = simp (bytes-append words more)
+
+pub bytes-more : (i : ℕ) (words : List ℕ) → i < length words
+    → bytesIn (take (i + 1) words) ≡ bytesIn (take i words) ++ bytesIn (getD words i 0 ∷ [])
+bytes-more i words h = rw (add-one i, take-suc words i 0 h, bytes-append)

@@ -1,10 +1,10 @@
-// Bytes to words, numbers and words to text, and the line of a refusal.
+// Bytes to words and back, numbers and words to text, and the line of a refusal.
 ghost use mathlib.Core.Path.{_≡_};
 ghost use mathlib.Core.List.{[], _∷_};
 ghost use Prim.Native.Nat.{_+_, _*_, _≤_, _<_, _/_};
 ghost use lib.ListN.{length};
 ghost use Rattle.rules.specs.Outcome.{refused};
-ghost use Rattle.rules.specs.Text.{decimal, outcomeText};
+ghost use Rattle.rules.specs.Text.{bytesIn, decimal, outcomeText};
 ghost use Rattle.text.specs.Field.{fieldText};
 ghost use Rattle.text.specs.Paste.{pasted};
 ghost use Rattle.text.specs.Words.{wordAt, WordsRead};
@@ -62,6 +62,34 @@ pub fn put_bytes(out: &mut [u8], at: usize, bytes: &[u8]) -> usize
         i += 1;
     }
     at + i
+}
+
+// The four bytes of a word from place `at` on, the lowest first, and the place behind them.
+fn put_word(out: &mut [u8], at: usize, w: u32) -> usize
+    requires { ⌜ at + 4 ≤ length (now out) ⌝ }
+    ensures written { λ _. ⌜ now (out .exit) ≡ pasted at (bytesIn (w ∷ [])) (now (out .entry)) ⌝ }
+    ensures next { λ r. ⌜ r ≡ at + 4 ⌝ }
+{
+    out[at] = (w % 256) as u8;
+    out[at + 1] = (w / 256 % 256) as u8;
+    out[at + 2] = (w / 65536 % 256) as u8;
+    out[at + 3] = (w / 16777216) as u8;
+    at + 4
+}
+
+// Words as bytes from place `at` on, the lowest byte of each first, and the place behind them.
+pub fn put_words(out: &mut [u8], at: usize, words: &[u32]) -> usize
+    requires { ⌜ at + 4 * length (now words) ≤ length (now out) ⌝ }
+    ensures written { λ _. ⌜ now (out .exit) ≡ pasted at (bytesIn (now (words .entry))) (now (out .entry)) ⌝ }
+    ensures next { λ r. ⌜ r ≡ at + length (bytesIn (now (words .entry))) ⌝ }
+{
+    let mut next = at;
+    let mut i = 0;
+    while i < words.len() {
+        next = put_word(out, next, words[i]);
+        i += 1;
+    }
+    next
 }
 
 // The decimal digits of n, where there is room for them.

@@ -1,4 +1,4 @@
-// Document 01's refusals by their words.
+// The refusals of documents 01 and 02 by their words.
 pub const BAD_HEAD: u32 = 1;
 
 pub const BAD_WORD: u32 = 2;
@@ -24,3 +24,5 @@ pub const TOO_TALL: u32 = 11;
 pub const NO_SUCH_CHUNK: u32 = 12;
 
 pub const SHORT_TRAY: u32 = 13;
+
+pub const UNFIT_PART: u32 = 14;

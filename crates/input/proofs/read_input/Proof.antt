@@ -4,8 +4,8 @@ use mathlib.Core.Path.{_≡_}
 use Prim.Native.Nat.{_≤_, _-_}
 use lib.ListN.{length}
 use borrow.Author.Needs.{needs}
-use Rattle.sheet.proofs.read_input.Statement.{statement}
-use Rattle.sheet.proofs.read_input.Tie as tie
+use Rattle.input.proofs.read_input.Statement.{statement}
+use Rattle.input.proofs.read_input.Tie as tie
 
 abbrev Inv-loop : tie.InvT-loop
 Inv-loop buf₀ done₀ buf done = (done ≤ length buf) × (length buf ≡ length buf₀)

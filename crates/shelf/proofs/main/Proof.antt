@@ -1,0 +1,20 @@
+-- `main` writes as many bytes as there are. Assumes nothing.
+use mathlib.Core.Path.{sym}
+use lib.Seq.{length-take-le}
+use borrow.Author.Needs.{needs}
+use Rattle.text.proofs.PasteLaws.{pasted-holds}
+use Rattle.shelf.proofs.main.Statement.{statement}
+use Rattle.shelf.proofs.main.Tie as tie
+
+array-share-prefix-out : tie.Need-array-share-prefix-out
+array-share-prefix-out c = pasted-holds _ _ (c .shelf-bytes .ensures .0) (c .shelf-bytes .ensures .1)
+
+slice-aggregate-write-all-2 : tie.Need-slice-aggregate-write-all-2
+slice-aggregate-write-all-2 c = sym (length-take-le _ _ (array-share-prefix-out (c .before)))
+
+pub main-spec : {M : Type 1} → statement M
+main-spec =
+    tie.close
+    (tie.spec (λ c. search needs) (λ c κs. search needs) (λ c. search needs) (λ c. search needs) (λ c. search needs) (λ c κs. search needs)
+    (λ c. search needs) (λ c κs. search needs) array-share-prefix-out slice-aggregate-write-all-2 (λ c κs. search needs) (λ c. search needs)
+    (λ c κs. search needs) (λ c. search needs) (λ c. search needs))
