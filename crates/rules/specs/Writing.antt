@@ -108,12 +108,14 @@ Both R (x ∷ xs) (y ∷ ys) = R x y × Both R xs ys
 
 -- "The layout of what is lent is yours": four lists. `chunks` has five numbers a chunk (locals, type, and how many constants, ops and extras are its
 -- own), `constants` three each (0, the low and the high 32 bits of an integer; or 1, 0, 0), `ops` three each (kind, a, b), `extras` one each.
+
 -- What lists hold, if they hold anything.
 pub data Held (A : Type 0) : Type 0 where
   holds : A → Held A
   holdNone : Held A
 
 module _ {A : Type 0} where
+  -- something where a test holds; and one thing in front of others, if all of them are held
   abbrev pub heldIf : Bool → A → Held A
   heldIf true x = holds x
   heldIf false x = holdNone
@@ -123,23 +125,26 @@ module _ {A : Type 0} where
   heldFirst (holds x) holdNone = holdNone
   heldFirst holdNone xs = holdNone
 
+-- a constant of one of its two forms
 abbrev pub heldConstant : ℕ → ℕ → ℕ → Held Constant
 heldConstant t low high =
     cond (eqb t 0) (holds (integer (signedOf (low + 2 ^ 32 * high)))) (heldIf (eqb t 1 && eqb low 0 && eqb high 0) other)
 
+-- constants, none of them cut off
 unfoldable pub heldConstants : List ℕ → Held (List Constant)
 heldConstants [] = holds []
 heldConstants (t ∷ []) = holdNone
 heldConstants (t ∷ low ∷ []) = holdNone
 heldConstants (t ∷ low ∷ high ∷ ns) = heldFirst (heldConstant t low high) (heldConstants ns)
 
--- of a list that is a multiple of three long
+-- ops; a chunk's own are a multiple of three numbers
 unfoldable pub heldOps : List ℕ → List Op
 heldOps [] = []
 heldOps (k ∷ []) = []
 heldOps (k ∷ a ∷ []) = []
 heldOps (k ∷ a ∷ b ∷ ns) = record { kind = k; a = a; b = b } ∷ heldOps ns
 
+-- a chunk of these parts, if its constants are held
 abbrev pub heldDraft : ℕ → ℕ → Held (List Constant) → List Op → List ℕ → Held Draft
 heldDraft l t (holds ks) os xs = holds (record { locals = l; type = t; constants = ks; ops = os; extras = xs })
 heldDraft l t holdNone os xs = holdNone
@@ -180,7 +185,7 @@ howMany (refused n c p) = refused n c p
 abbrev pub writeTray : Outcome (List ℕ) → List ℕ → List ℕ
 writeTray o tray = orderTray o tray
 
--- The four lists of a module.
+-- The four lists of a module, as an editor makes them: proofs/Lent shows that they hold it.
 abbrev pub lentChunk : Draft → List ℕ
 lentChunk d = d .locals ∷ d .type ∷ length (d .constants) ∷ length (d .ops) ∷ length (d .extras) ∷ []
 

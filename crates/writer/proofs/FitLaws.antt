@@ -7,7 +7,7 @@ use Prim.Native.Nat.{ℕ, zero, suc, _+_, _-_, _*_, _^_, _<_, _≤_}
 use native.Mathlib.Omega.{arith}
 use borrow.Author.Tests.{eqb-true, ltb-true, lt-ltb, le-ltb, le-leb, lt-leb, eq-eqb, ne-eqb}
 use lib.Dec.{eqb, leb, ltb}
-use lib.ListN.{length, drop, getD, take, length-drop}
+use lib.ListN.{length, drop, getD, take}
 use lib.Seq.{take-suc}
 use Rattle.rules.specs.Ops.{word, between, usesA, greatestB, isOp}
 use Rattle.rules.specs.Form.{other}
@@ -16,7 +16,7 @@ use Rattle.rules.proofs.WordFields.{kind-word, fieldA-word, fieldB-word}
 use Rattle.rules.proofs.ConstantWords.{bits-signed}
 use Rattle.words.proofs.Cases.{decide}
 use Rattle.writer.specs.Size.{heldFits, constantsFit}
-use Rattle.writer.proofs.HeldLaws.{three-at, none-left, fits-first}
+use Rattle.writer.proofs.HeldLaws.{three-at, none-left, few-constants, few-ops, fits-first}
 
 -- the two forms of a constant, as tests; an integer of two halves has 64 bits
 module _ (t low high : ℕ) where
@@ -42,29 +42,19 @@ module _ (l : List ℕ) (i : ℕ) (h : i + 3 ≤ length l) where
   unfolding heldOps every
   op-at = rw (three-at l i h)
 
--- fewer than three numbers are no constant and no op
-few-constants : (l : List ℕ) → length l < 3 → constantsFit (heldConstants l) ≡ eqb (length l) 0
-unfolding heldConstants every
-few-constants [] h = refl
-few-constants (t ∷ []) h = refl
-few-constants (t ∷ low ∷ []) h = refl
-few-constants (t ∷ low ∷ high ∷ l) h = absurd (omega arith)
-
-few-ops : (l : List ℕ) → length l < 3 → every opFits (heldOps l) ≡ true
-unfolding heldOps every
-few-ops [] h = refl
-few-ops (k ∷ []) h = refl
-few-ops (k ∷ a ∷ []) h = refl
-few-ops (k ∷ a ∷ b ∷ l) h = absurd (omega arith)
-
+-- at the end of a list
 module _ (l : List ℕ) (i : ℕ) (within : i ≤ length l) (few : length l - i < 3) where
   pub constants-end : constantsFit (heldConstants (drop i l)) ≡ eqb i (length l)
-  constants-end =
-      let n = length-drop i l in
-      few-constants (drop i l) (omega arith) ∙ none-left l i within
+  unfolding every
+  constants-end = ap constantsFit (few-constants l i few) ∙ go (eqb (length (drop i l)) 0) ∙ none-left l i within
+    where
+      go : (b : Bool) → constantsFit (heldIf b []) ≡ b
+      go true = refl
+      go false = refl
 
   pub ops-end : every opFits (heldOps (drop i l)) ≡ true
-  ops-end = let n = length-drop i l in few-ops (drop i l) (omega arith)
+  unfolding every
+  ops-end = ap (every opFits) (few-ops l i few)
 
 -- a field that is too large makes an op unfit
 module _ (k a b : ℕ) where

@@ -1,14 +1,14 @@
 -- What lists hold from a place on: that which stands there, in front of what is behind it. Assumes nothing.
 use mathlib.Core.Path.{_≡_, refl, ap, _∙_}
 use mathlib.Core.Bool.{Bool, true, false, _&&_, false≢true}
-use mathlib.Core.List.{List, _∷_, _++_, flatMap}
+use mathlib.Core.List.{List, [], _∷_, _++_, flatMap}
 use Prim.Native.Nat.{ℕ, suc, _+_, _-_, _*_, _<_, _≤_}
 use native.Mathlib.Omega.{arith}
 use borrow.Author.Tests.{eqb-true, eqb-false, eq-eqb, ne-eqb}
 use lib.Dec.{eqb}
 use lib.ListN.{length, take, drop, getD, length-drop}
 use lib.Seq.{take-all, drop-cons, drop-drop}
-use Rattle.rules.specs.Writing.{Held, holds, holdNone, heldFirst, every, held}
+use Rattle.rules.specs.Writing.{Held, holds, holdNone, heldIf, heldFirst, every, heldConstants, heldOps, held}
 use Rattle.words.proofs.Cases.{decide}
 use Rattle.writer.specs.declared.size.Head.{Head}
 use Rattle.writer.specs.Size.{heldFits, heldWords, headAt, frontOf}
@@ -42,6 +42,21 @@ module _ (l : List ℕ) where
       let n = length-drop i l in
       decide (eqb i (length l)) (λ e. rw e (eq-eqb (length (drop i l)) 0 (omega (arith, eqb-true i (length l) e))))
       (λ e. rw e (ne-eqb (length (drop i l)) 0 (λ z. eqb-false i (length l) e (omega arith))))
+
+-- fewer than three numbers are no constant and no op
+few-held : (l : List ℕ) → length l < 3 → (heldConstants l ≡ heldIf (eqb (length l) 0) []) × (heldOps l ≡ [])
+unfolding heldConstants heldOps
+few-held [] h = (refl, refl)
+few-held (t ∷ []) h = (refl, refl)
+few-held (t ∷ low ∷ []) h = (refl, refl)
+few-held (t ∷ low ∷ high ∷ l) h = absurd (omega arith)
+
+module _ (l : List ℕ) (i : ℕ) (few : length l - i < 3) where
+  pub few-constants : heldConstants (drop i l) ≡ heldIf (eqb (length (drop i l)) 0) []
+  few-constants = few-held (drop i l) (omega (arith, length-drop i l)) .0
+
+  pub few-ops : heldOps (drop i l) ≡ []
+  few-ops = few-held (drop i l) (omega (arith, length-drop i l)) .1
 
 -- the first chunk from a place on, and the chunks behind it
 module _ (chunks ks os xs : List ℕ) (i k o x : ℕ) (h : Head) where

@@ -7,7 +7,7 @@ use native.Mathlib.Numerals.{add-one, towards-suc}
 use native.Mathlib.Omega.{arith}
 use borrow.Author.Tests.{eqb-true, ltb-true}
 use lib.Dec.{eqb, ltb}
-use lib.ListN.{length, set, take, drop, getD, length-append, length-drop, drop-of-length-le}
+use lib.ListN.{length, set, take, drop, getD, length-append, drop-of-length-le}
 use lib.Seq.{drop-cons}
 use Rattle.rules.specs.Ops.{word, isOp}
 use Rattle.rules.specs.Form.{Constant, constantWords, extraWords}
@@ -19,7 +19,7 @@ use Rattle.words.proofs.Cases.{decide}
 use Rattle.text.specs.Paste.{pasted, Put}
 use Rattle.writer.specs.declared.size.Head.{Head}
 use Rattle.writer.specs.Size.{heldFits, heldWords, fourWords, constantsFit, constantsWords, filedWords, oneFits, oneWords, allFit, allWords, frontOf}
-use Rattle.writer.proofs.HeldLaws.{three-at, fits-first, words-first}
+use Rattle.writer.proofs.HeldLaws.{three-at, few-constants, few-ops, fits-first, words-first}
 use Rattle.writer.proofs.FitLaws.{constant-at, op-at}
 use Rattle.writer.proofs.SizeLaws.{parts-fit, counts, front-own, few-chunks}
 use Rattle.text.proofs.PasteLaws.{pasted-none, pasted-stores, pasted-length, pasted-twice}
@@ -115,27 +115,18 @@ module _ (l : List ℕ) (i : ℕ) (h : i + 3 ≤ length l) where
       let hb = ltb-true b 256 fb in
       (omega (arith, op-kind (word k b a) is, kind-word k b a hb ha), ha, hb, rest, rw (three-at l i h))
 
--- fewer than three numbers have no words
-few-constants : (l : List ℕ) → length l < 3 → constantsWords (heldConstants l) ≡ []
-unfolding heldConstants flatMap
-few-constants [] h = refl
-few-constants (t ∷ []) h = refl
-few-constants (t ∷ low ∷ []) h = refl
-few-constants (t ∷ low ∷ high ∷ l) h = absurd (omega arith)
-
-few-ops : (l : List ℕ) → length l < 3 → map opWord (heldOps l) ≡ []
-unfolding heldOps
-few-ops [] h = refl
-few-ops (k ∷ []) h = refl
-few-ops (k ∷ a ∷ []) h = refl
-few-ops (k ∷ a ∷ b ∷ l) h = absurd (omega arith)
-
+-- at the end of a list there are no words
 module _ (l : List ℕ) (i : ℕ) (few : length l - i < 3) where
   pub constants-none : constantsWords (heldConstants (drop i l)) ≡ []
-  constants-none = few-constants (drop i l) (omega (arith, length-drop i l))
+  unfolding flatMap
+  constants-none = ap constantsWords (few-constants l i few) ∙ go (eqb (length (drop i l)) 0)
+    where
+      go : (b : Bool) → constantsWords (heldIf b []) ≡ []
+      go true = refl
+      go false = refl
 
   pub ops-none : map opWord (heldOps (drop i l)) ≡ []
-  ops-none = few-ops (drop i l) (omega (arith, length-drop i l))
+  ops-none = ap (map opWord) (few-ops l i few)
 
 module _ (l : List ℕ) (i : ℕ) where
   pub extra-left : i < length l → getD l i 0 < 2 ^ 32

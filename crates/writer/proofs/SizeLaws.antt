@@ -98,6 +98,14 @@ module _ (h : Head) (ks os xs : List ℕ) where
       → frontOf h ks os xs ≡ heldDraft (h .locals) (h .mode) (heldConstants (take (3 * h .constants) ks)) (heldOps (take (3 * h .ops) os)) (take (h .extras) xs)
   front-own k o x = rw (le-leb (3 * h .constants) (length ks) k, le-leb (3 * h .ops) (length os) o, le-leb (h .extras) (length xs) x)
 
+-- the same from places of the lists on
+pub own-at : (h : Head) (ks os xs : List ℕ) (k o x : ℕ) → k ≤ length ks → o ≤ length os → x ≤ length xs
+    → oneFits (frontOf h (drop k ks) (drop o os) (drop x xs)) ≡ true
+    → (k + 3 * h .constants ≤ length ks) × (o + 3 * h .ops ≤ length os) × (x + h .extras ≤ length xs)
+own-at h ks os xs k o x hk ho hx e =
+    let n = counts h (drop k ks) (drop o os) (drop x xs) e in
+    (omega (arith, n .0, length-drop k ks), omega (arith, n .1, length-drop o os), omega (arith, n .2, length-drop x xs))
+
 -- a size that is told, and one that is not
 pub size-told : (b : Bool) (n s : ℕ) → sizeIf b n ≡ found s → (b ≡ true) × (n ≡ s)
 size-told true n s e = (refl, cc)

@@ -9,7 +9,7 @@ use lib.ListN.{length, take, drop, length-append, length-drop}
 use Rattle.rules.specs.Writing.{Draft, Held, heldFirst, held}
 use Rattle.writer.specs.Size.{oneFits, oneWords, allFit, allWords, frontOf}
 use Rattle.writer.proofs.HeldLaws.{held-at, front-all}
-use Rattle.writer.proofs.SizeLaws.{counts}
+use Rattle.writer.proofs.SizeLaws.{own-at}
 use Rattle.writer.proofs.PutLaws.{Left, left-all, left-more, left-none, first-fits, chunks-none}
 use Rattle.writer.proofs.put.put_chunks.Statement.{statement}
 use Rattle.writer.proofs.put.put_chunks.Tie as tie
@@ -71,11 +71,7 @@ own : (b : tie.After-head-at Inv-loop μ-loop) → let l = place b .loop in let 
 own b =
     let l = place b .loop in
     let a = start (place b) .args in
-    let n = counts (b .head-at .result) (drop (l .k) (a .constants .now)) (drop (l .o) (a .ops .now)) (drop (l .x) (a .extras .now)) (fits b .0) in (
-      omega (arith, n .0, length-drop (l .k) (a .constants .now), l .inv .1),
-      omega (arith, n .1, length-drop (l .o) (a .ops .now), l .inv .2),
-      omega (arith, n .2, length-drop (l .x) (a .extras .now), l .inv .3),
-    )
+    own-at (b .head-at .result) (a .constants .now) (a .ops .now) (a .extras .now) (l .k) (l .o) (l .x) (l .inv .1) (l .inv .2) (l .inv .3) (fits b .0)
 
 -- the lists as they are handed on
 same : (b : tie.After-head-at Inv-loop μ-loop) → let l = place b .loop in let a = start (place b) .args in

@@ -6,14 +6,14 @@ use Prim.Native.Nat.{_+_, _-_, _*_, _≤_}
 use native.Mathlib.Omega.{arith}
 use borrow.Author.Needs.{needs}
 use lib.Dec.{eqb}
-use lib.ListN.{length, drop, length-drop}
+use lib.ListN.{length, drop}
 use Rattle.rules.specs.Limits.{mostWords}
 use Rattle.rules.specs.Outcome.{found}
 use Rattle.rules.specs.Writing.{Draft, Held, heldFirst, held}
 use Rattle.words.specs.Found.{foundOf}
 use Rattle.writer.specs.Size.{oneFits, oneWords, sizeIf, oneSize, sizeFrom, frontOf}
 use Rattle.writer.proofs.HeldLaws.{held-at, front-all}
-use Rattle.writer.proofs.SizeLaws.{counts, size-told, size-on, size-over, size-none, size-end}
+use Rattle.writer.proofs.SizeLaws.{own-at, size-told, size-on, size-over, size-none, size-end}
 use Rattle.writer.proofs.size.module_size.Statement.{statement}
 use Rattle.writer.proofs.size.module_size.Tie as tie
 
@@ -78,12 +78,8 @@ own c =
     let l = place b .loop in
     let a = start (place b) .args in
     let fits = size-told (oneFits (front b)) (length (oneWords (front b))) (c .size .given .0 .0) (told c) .0 in
-    let n = counts (b .before .before .before .before .head-at .result) (drop (l .k) (a .constants .now)) (drop (l .o) (a .ops .now)) (drop (l .x) (a .extras .now)) fits in
-    let k = length-drop (l .k) (a .constants .now) in
-    let o = length-drop (l .o) (a .ops .now) in
-    let x = length-drop (l .x) (a .extras .now) in
-    let (hk, ho, hx) : (l .k ≤ length (a .constants .now)) × (l .o ≤ length (a .ops .now)) × (l .x ≤ length (a .extras .now)) = (l .inv .1, l .inv .2, l .inv .3) in
-    (omega (arith, n .0), omega (arith, n .1), omega (arith, n .2))
+    own-at (b .before .before .before .before .head-at .result) (a .constants .now) (a .ops .now) (a .extras .now) (l .k) (l .o) (l .x) (l .inv .1) (l .inv .2)
+    (l .inv .3) fits
 
 returns : tie.Need-returns Inv-loop μ-loop
 returns c =
