@@ -71,6 +71,12 @@ pub fn times(random: &mut Random) {
     for (name, words) in &modules {
         written(name, &chunks_of(words));
     }
+    for (name, words) in [
+        ("plain ops, 1,024 words", 1_024),
+        ("plain ops, 4,096 words", 4_096),
+    ] {
+        written(name, &chunks_of(&random.equal_chunks(1, 0, words - 2, 0)));
+    }
     let mut zeros = chunks_of(&modules[0].1);
     zeros[0].extras = vec![0; MOST_OPS];
     written("extras of 0, all dropped", &zeros);
