@@ -64,7 +64,7 @@ returns-4 c =
     let counted = t .before .before .before in
     refused-is (c .refusal4 .result) (a .tray .now) (c .refusal4 .ensures)
     (short-tray (a .chunks .now) (a .constants .now) (a .ops .now) (a .extras .now) (length (a .tray .now)) (t .size .given .0 .0) (counted .before .if1 .left) (counted .if2 .left) (told t)
-    (c .before .if3 .taken))
+    (omega (arith, c .before .if3 .taken)))
 
 -- the words of the chunks have room behind the head
 room : (c : tie.Else3) → let s = begun (c .before .before) in 1 + length (allWords (lent s)) ≤ length (s .args .tray .now)
@@ -99,7 +99,7 @@ returns-5 c =
     let t = e .before .before in
     let a = begun t .args in
     let counted = t .before .before .before in
-    let out = written (a .chunks .now) (a .constants .now) (a .ops .now) (a .extras .now) (length (a .tray .now)) (t .size .given .0 .0) (counted .before .if1 .left) (counted .if2 .left) (told t) (e .if3 .left) in
+    let out = written (a .chunks .now) (a .constants .now) (a .ops .now) (a .extras .now) (length (a .tray .now)) (t .size .given .0 .0) (counted .before .if1 .left) (counted .if2 .left) (told t) (omega (arith, e .if3 .left)) in
     let n : t .size .given .0 .0 ≡ suc (length (allWords (lent (begun t)))) = omega (arith, told-is t .1) in
     rw out (ap answer n, done p)
 

@@ -83,7 +83,8 @@ returns-6 c =
     let os = heldOps (a .ops .now) in
     let n = counted k in
     let fits =
-    all-parts-fit l t ks os (a .extras .now) (constants .before .before .before .if1 .left) (constants .before .if2 .left) constants-fit ops-fit
+    all-parts-fit l t ks os (a .extras .now) (omega (arith, constants .before .before .before .if1 .left)) (constants .before .if2 .left) constants-fit
+    ops-fit
     (extras-fit (a .extras .now) (λ i h. omega (arith, known i))) (omega (arith, n, c .before .before .if5 .left)) in
     rw fits
     (ap found
