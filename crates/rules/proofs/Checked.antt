@@ -11,7 +11,7 @@ use Rattle.rules.specs.Order.{member, calleesIn, visitEach, visit, upFro
 use Rattle.rules.specs.Sheet.{linesIn}
 use Rattle.rules.specs.Text.{wordsOf, bytesIn, digits, linesText}
 use Rattle.rules.specs.Writing.{trimmed, every, heldConstants, heldOps, held}
-use Rattle.rules.specs.Cases.{AllHold, documented, settled}
+use Rattle.rules.specs.Cases.{AllHold, documented, settled, levelled}
 use Rattle.rules.specs.CalleeCases.{shared}
 use Rattle.rules.specs.WritingCases.{shelved}
 
@@ -24,6 +24,11 @@ documented-hold = (refl, (refl, (refl, (refl, (refl, (refl, (refl, (refl, (refl,
 pub settled-hold : AllHold settled
 unfolding flatMap inGroups brokenAt takeWhile dropWhile constantsOf extrasOf chunksOf parse firstOf firstBackward lastSet arrayLength neverSets rowCost rowHeight member calleesIn visitEach visit upFrom linesIn wordsOf digits linesText bytesIn
 settled-hold = (refl, (refl, (refl, (refl, (refl, (refl, (refl, (refl, (refl, (refl, (refl, (refl, (refl, (refl, (refl, (refl, (refl, (refl, (refl, (refl, tt))))))))))))))))))))
+
+-- the levels of nesting
+pub levelled-hold : AllHold levelled
+unfolding flatMap inGroups brokenAt takeWhile dropWhile constantsOf extrasOf chunksOf parse firstBackward rowCost rowHeight
+levelled-hold = (refl, (refl, (refl, (refl, (refl, (refl, (refl, (refl, tt))))))))
 
 -- charged callees
 pub shared-hold : AllHold shared

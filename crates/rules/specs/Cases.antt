@@ -1,9 +1,9 @@
--- The cases of document 01 that are marked P, from filed words to what comes of them, and worked cases of the readings of its sentences.
+-- The cases of document 01 that are marked P, from filed words to what comes of them, worked cases of the readings of its sentences, and request 2.3's.
 -- proofs/Checked proves each list as a whole, by computation.
 use mathlib.Core.Path.{_≡_}
-use mathlib.Core.Bool.{Bool, true}
+use mathlib.Core.Bool.{Bool, true, false}
 use mathlib.Core.List.{List, [], _∷_}
-use Prim.Native.Nat.{ℕ, _-_, _^_}
+use Prim.Native.Nat.{ℕ, zero, suc, _+_, _-_, _*_, _^_}
 use Prim.Native.String.{String}
 use lib.IntN.{ℤ, pos, negsuc}
 use Rattle.rules.specs.Kinds as K
@@ -203,4 +203,33 @@ settled =
       claim = sheetText (bytesIn (moduleWords (caller (op K.Call 1 ∷ []) ∷ caller (op K.Yield 0 ∷ []) ∷ [])))
           ≡ textOf "chunk cycles peak bytes whole\n1 1 0 0 1\n0 10 1 32 11\n";
     }
+    ∷ []
+
+-- n Ifs in one another from position i on, with their EndIfs, and some ops behind them
+abbrev pub ifsAt : ℕ → ℕ → List ℕ → List ℕ
+ifsAt i zero behind = behind
+ifsAt i (suc n) behind = op K.If (i + 2 * n + 1) ∷ ifsAt (suc i) n (op K.EndIf 0 ∷ behind)
+
+-- n Loops in one another from position i on, then for each, from the inmost, a Break with its target and its EndLoop
+abbrev pub loopsAt : ℕ → ℕ → List ℕ → List ℕ
+loopsAt i zero behind = behind
+loopsAt i (suc n) behind = op K.Loop (i + 3 * suc n) ∷ loopsAt (suc i) n (op K.Break (i + 3 * suc n) ∷ op K.EndLoop (suc i) ∷ behind)
+
+abbrev pub ifs : ℕ → List ℕ
+ifs n = alone (caller (ifsAt 0 n []))
+
+abbrev pub loops : ℕ → List ℕ
+loops n = alone (caller (loopsAt 0 n []))
+
+-- 2.3: "Levels run from 0 to 257." Level 0 is the range, 256 the deepest body that is walked, 257 the one that is refused by 7, by both walks.
+abbrev pub levelled : List Case
+levelled =
+    record { name = "256 Ifs in one another: cycles 512"; claim = cyclesOutcome (ifs 256) 0 ≡ cycles 512 false }
+    ∷ record { name = "256 Ifs in one another: peak 0, delta -1"; claim = stackOutcome (ifs 256) 0 [] ≡ stack 0 (offset (negsuc 0)) 0 }
+    ∷ record { name = "257 Ifs in one another: refusal 7 of the cycle walk"; claim = cyclesOutcome (ifs 257) 0 ≡ refused 7 0 0 }
+    ∷ record { name = "257 Ifs in one another: refusal 7 of the stack walk"; claim = stackOutcome (ifs 257) 0 [] ≡ refused 7 0 0 }
+    ∷ record { name = "256 Loops in one another: cycles 512"; claim = cyclesOutcome (loops 256) 0 ≡ cycles 512 false }
+    ∷ record { name = "257 Loops in one another: refusal 7 of the cycle walk"; claim = cyclesOutcome (loops 257) 0 ≡ refused 7 0 0 }
+    ∷ record { name = "257 Loops in one another: refusal 7 of the stack walk"; claim = stackOutcome (loops 257) 0 [] ≡ refused 7 0 0 }
+    ∷ record { name = "257 Ifs behind a Return: 2 cycles"; claim = cyclesOutcome (alone (caller (op K.Return 0 ∷ ifsAt 1 257 []))) 0 ≡ cycles 2 true }
     ∷ []
