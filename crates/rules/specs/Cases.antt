@@ -215,13 +215,15 @@ abbrev pub loopsAt : ℕ → ℕ → List ℕ → List ℕ
 loopsAt i zero behind = behind
 loopsAt i (suc n) behind = op K.Loop (i + 3 * suc n) ∷ loopsAt (suc i) n (op K.Break (i + 3 * suc n) ∷ op K.EndLoop (suc i) ∷ behind)
 
+-- so many of them, alone as a module
 abbrev pub ifs : ℕ → List ℕ
 ifs n = alone (caller (ifsAt 0 n []))
 
 abbrev pub loops : ℕ → List ℕ
 loops n = alone (caller (loopsAt 0 n []))
 
--- 2.3: "Levels run from 0 to 257." Level 0 is the range, 256 the deepest body that is walked, 257 the one that is refused by 7, by both walks.
+-- 2.3: "Levels run from 0 to 257", document 01: "256 blocks in one another are walked. At the 257th: refusal 7." Level 0 is the range, 256 the deepest
+-- body that is walked, 257 the one that both walks refuse. What no walk visits has no level.
 abbrev pub levelled : List Case
 levelled =
     record { name = "256 Ifs in one another: cycles 512"; claim = cyclesOutcome (ifs 256) 0 ≡ cycles 512 false }
