@@ -30,6 +30,7 @@ mod refusals;
 #[allow(dead_code)]
 mod rounds;
 mod store;
+mod strays;
 mod table;
 #[allow(dead_code)]
 #[path = "standin/text_size.rs"]
@@ -98,7 +99,7 @@ fn worked(counts: &mut Counts) {
 }
 
 /// Words that are no module, and chunks that there are not: refusals 1, 2 and 12, which only document 01 has. The order and the sheet test no chunk, and their
-/// trays are looked at behind the words.
+/// trays are looked at behind the words. The breaks name what was drawn: all three come before 15.
 fn refusals(counts: &mut Counts, random: &mut Random) {
     for _ in 0..50_000 {
         let mut words = form::write(&programs::module(random));
@@ -156,7 +157,7 @@ fn lists(counts: &mut Counts) {
         op(CALL, 3, 1),
         op(TRAP, 0, 8),
     ];
-    let all: Vec<Op> = few.iter().chain(&more).map(|held| Op { ..*held }).collect();
+    let all: Vec<Op> = few.iter().chain(&more).copied().collect();
     for length in 0..=3 {
         every::flat(length, &all, |_| 0, length + 1, &mut |case| {
             counts.compare(&case, &ALL)
@@ -200,13 +201,18 @@ fn changes(counts: &mut Counts) {
     }
 }
 
+/// Random modules, and behind some of them the same with strays. These are drawn from a seed of their own, so that they move no other module.
 fn random_modules(counts: &mut Counts, random: &mut Random, modules: u64) {
+    let mut drawn = Random(!random.0);
     for _ in 0..modules {
-        let chunks = programs::module(random);
+        let chunks = programs::own_targets(programs::module(random));
         let callees = programs::callees(random, chunks.len());
-        let words = form::write(&chunks);
-        if words.len() <= form::MOST_WORDS {
-            counts.compare(&Case::new(words, callees), &ALL);
+        if form::write(&chunks).len() > form::MOST_WORDS {
+            continue;
+        }
+        let strayed = strays::some(&chunks, &mut drawn);
+        for held in [Some(chunks), strayed].into_iter().flatten() {
+            counts.compare(&Case::new(form::write(&held), callees.clone()), &ALL);
         }
     }
 }

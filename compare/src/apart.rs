@@ -58,6 +58,18 @@ fn crossed(name: &'static str, ops: Vec<Op>, original: Outcome) -> Part {
     }
 }
 
+/// Breaks that name another target than their own Loop's: ours is 15 at this place.
+fn stray(name: &'static str, chunk: Chunk, place: usize, original: Outcome) -> Part {
+    Part {
+        name,
+        of: Cycles,
+        chunk,
+        callee: 0,
+        ours: Refused(STRAY_BREAK, 0, place),
+        original,
+    }
+}
+
 fn public(name: &'static str, chunk: Chunk, ours: Outcome, original: Outcome) -> Part {
     Part {
         name,
@@ -106,6 +118,22 @@ fn rows() -> Vec<Part> {
     ]
 }
 
+/// The original does not read what a break names.
+fn strays() -> Vec<Part> {
+    let outer = ops![LOOP 6, LOOP 4, BREAK 6, END_LOOP, BREAK 6, END_LOOP];
+    let mut header = chunk_l(&[0, 3, 1]);
+    header.ops[8].a = 0;
+    vec![
+        stray(
+            "Break out of two loops",
+            chunk(FUNC, 0, &[], outer),
+            2,
+            answer(4, false),
+        ),
+        stray("BreakIf 0 in chunk L", header, 8, answer(48, true)),
+    ]
+}
+
 /// What the original's public functions do beside the walk.
 fn functions() -> Vec<Part> {
     let held = |mode, ops| chunk(mode, 0, &[], ops);
@@ -113,6 +141,7 @@ fn functions() -> Vec<Part> {
     yielding.mode = REENTRANT;
     yielding.ops.insert(9, op(YIELD, 0, 0));
     yielding.ops[4].a = 16;
+    yielding.ops[8].a = 16;
     vec![
         public(
             "Stream and Reset charged",
@@ -143,7 +172,7 @@ fn functions() -> Vec<Part> {
 
 /// Each input has to give both answers.
 pub fn all(counts: &mut Counts) {
-    for part in rows().into_iter().chain(functions()) {
+    for part in [rows(), strays(), functions()].into_iter().flatten() {
         let case = Case::new(crate::form::write(&[part.chunk]), vec![part.callee]);
         let row = if part.of == Stack { "stack" } else { "cycles" };
         let comparison = COMPARISONS.iter().find(|held| held.name == row);

@@ -2,7 +2,7 @@
 use crate::form::{self, Chunk};
 use crate::kinds::*;
 use crate::nesting::{Around, counted, nested};
-use crate::pieces::{chunk, chunk_l, header, op, tail};
+use crate::pieces::{chunk, chunk_l, header, op, own_targets, tail};
 use crate::typical;
 
 /// One chunk of plain ops alone, a module of so many words.
@@ -46,6 +46,7 @@ pub fn loops(words: usize) -> Vec<Chunk> {
             });
         }
     }
+    held.ops = own_targets(held.ops);
     vec![held]
 }
 
@@ -63,6 +64,7 @@ fn far_back(words: usize) -> Vec<Chunk> {
         ops.extend(tail(v, 2));
         ops.push(op(END_LOOP, 0, 0));
     }
+    let ops = own_targets(ops);
     vec![chunk(FUNC, loops as u16 + 1, &[0, 3, 1], ops)]
 }
 

@@ -1,5 +1,5 @@
-//! What sets an input apart by document 01, as plain Rust reads it: the range, forward targets and rows, and the tallest stack. And its op table. Nothing here
-//! is taken from the original.
+//! What sets an input apart by document 01, as plain Rust reads it: the range, forward targets and rows, and the tallest stack; and by request 2.4: breaks that
+//! name another target. And document 01's op table. Nothing here is taken from the original.
 use crate::form::{Chunk, Op};
 use crate::kinds::*;
 use crate::refusals::*;
@@ -88,15 +88,33 @@ fn row(ops: &[Op], mut i: usize, to: usize, in_loop: bool) -> bool {
     true
 }
 
-/// 3, 4, 5 or 6, if the chunk is refused by one of them.
+/// The target of the innermost Loop around position `i` of a range that begins at `from`: that of the last Loop before `i` whose target is behind `i`.
+fn target_around(ops: &[Op], from: usize, i: usize) -> Option<u16> {
+    let loops = ops[from..i].iter().filter(|op| op.kind == LOOP);
+    loops.map(|op| op.a).rfind(|&t| i < usize::from(t))
+}
+
+/// "the operand of Break and BreakIf must be the target of the innermost Loop around it": the first of the range that names another
+fn own_targets(ops: &[Op], from: usize, to: usize) -> Result<(), Refusal> {
+    let stray = |&i: &usize| {
+        let op = &ops[i];
+        matches!(op.kind, BREAK | BREAK_IF)
+            && target_around(ops, from, i).is_some_and(|t| op.a != t)
+    };
+    match (from..to).find(stray) {
+        Some(i) => Err(Refusal(STRAY_BREAK, i)),
+        None => Ok(()),
+    }
+}
+
+/// 3, 4, 5, 6 or 15, if the chunk is refused by one of them.
 pub fn chunk_row(chunk: &Chunk) -> Result<(), Refusal> {
     let (from, to) = range(chunk)?;
     forward(&chunk.ops)?;
-    if row(&chunk.ops, from, to, false) {
-        Ok(())
-    } else {
-        Err(Refusal(CROSSED, 0))
+    if !row(&chunk.ops, from, to, false) {
+        return Err(Refusal(CROSSED, 0));
     }
+    own_targets(&chunk.ops, from, to)
 }
 
 /// "locals + peak over 134,217,727"

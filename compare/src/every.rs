@@ -1,8 +1,11 @@
-//! Every small input of a kind: flat op lists, rows by their grammar, and every change of one or two ops in chunks with counted loops.
+//! Every small input of a kind: flat op lists, rows by their grammar, and every change of one or two ops in chunks with counted loops. Breaks name their own
+//! Loops' targets; behind each input that has one in a Loop stand some in which one names another.
 use crate::case::Case;
-use crate::form::{Chunk, Constant, Op};
+use crate::document;
+use crate::form::{Chunk, Op};
 use crate::kinds::*;
-use crate::pieces::{chunk, header, op, tail};
+use crate::pieces::{chunk, header, op, own_targets, tail};
+use crate::strays;
 
 /// Choices one after the other. Each run takes the same choices as the one before, but for the last that could be counted up.
 #[derive(Default)]
@@ -43,8 +46,13 @@ fn each(mut make: impl FnMut(&mut Choices) -> Chunk, mut see: impl FnMut(Chunk))
     }
 }
 
-fn copied(held: &Op) -> Op {
-    Op { ..*held }
+/// A chunk, and with one of its strays if it has any: by and by each.
+fn seen(chunk: Chunk, number: &mut usize, see: &mut impl FnMut(Case)) {
+    see(Case::of(std::slice::from_ref(&chunk)));
+    if let Some(strayed) = strays::one(&chunk, *number) {
+        *number += 1;
+        see(Case::of(&[strayed]));
+    }
 }
 
 /// Every list of `length` ops over these, and over If, Else and Loop with each target from `least(position)` to `most`.
@@ -55,22 +63,32 @@ pub fn flat(
     most: usize,
     see: &mut impl FnMut(Case),
 ) {
+    let mut number = 0;
     let make = |choices: &mut Choices| {
         let ops = (0..length).map(|i| {
             let targets = (most + 1).saturating_sub(least(i));
             let k = choices.below((others.len() + 3 * targets) as u64) as usize;
             match others.get(k) {
-                Some(held) => copied(held),
+                Some(held) => *held,
                 None => {
                     let k = k - others.len();
                     op([IF, ELSE, LOOP][k / targets], 0, least(i) + k % targets)
                 }
             }
         });
-        let ops = ops.collect();
+        let ops = own_targets(ops.collect());
         chunk(FUNC, 1, &[], ops)
     };
-    each(make, |chunk| see(Case::of(&[chunk])));
+    each(make, |chunk| see_flat(chunk, &mut number, see));
+}
+
+/// A row is seen with each of its strays, other lists with one, since 5 or 6 is found first there.
+fn see_flat(chunk: Chunk, number: &mut usize, see: &mut impl FnMut(Case)) {
+    if document::chunk_row(&chunk).is_err() {
+        return seen(chunk, number, see);
+    }
+    see(Case::of(std::slice::from_ref(&chunk)));
+    strays::each(&chunk).for_each(|strayed| see(Case::of(&[strayed])));
 }
 
 /// An If, with an Else or without.
@@ -128,37 +146,33 @@ fn row(choices: &mut Choices, ops: &mut Vec<Op>, room: &mut u64, loops: usize) {
 
 /// Every row of at most so many items. The loops are passed three times, or four.
 pub fn rows(items: u64, mut see: impl FnMut(Case)) {
+    let mut number = 0;
     let make = |choices: &mut Choices| {
         let mut ops = Vec::new();
         for (slot, index) in [(0, 0), (1, 1), (2, 0), (3, 3)] {
             ops.extend([op(CONST, 0, index), op(SET_LOCAL, 0, slot)]);
         }
         row(choices, &mut ops, &mut { items }, 0);
-        chunk(FUNC, 4, &[0, 3, 1, 4], ops)
+        chunk(FUNC, 4, &[0, 3, 1, 4], own_targets(ops))
     };
-    each(make, |chunk| see(Case::of(&[chunk])));
+    each(make, |chunk| seen(chunk, &mut number, &mut see));
 }
 
 /// A chunk with other ops.
 fn with_ops(from: &Chunk, ops: Vec<Op>) -> Chunk {
-    let constants = from.constants.iter().map(|held| match held {
-        Constant::Int(value) => Constant::Int(*value),
-        Constant::Other => Constant::Other,
-    });
     Chunk {
-        constants: constants.collect(),
-        ops,
-        extras: from.extras.clone(),
-        ..*from
+        ops: own_targets(ops),
+        ..from.clone()
     }
 }
 
 /// Each stretch of a chunk's ops, so that a header or a tail is cut off by either end.
 pub fn stretches(from: &Chunk, see: &mut impl FnMut(Case)) {
+    let mut number = 0;
     for end in 0..=from.ops.len() {
         for start in 0..=end {
-            let ops = from.ops[start..end].iter().map(copied).collect();
-            see(Case::of(&[with_ops(from, ops)]));
+            let ops = from.ops[start..end].to_vec();
+            seen(with_ops(from, ops), &mut number, see);
         }
     }
 }
@@ -166,9 +180,8 @@ pub fn stretches(from: &Chunk, see: &mut impl FnMut(Case)) {
 /// A chunk, and each chunk that has one op replaced by each of `others`, taken out, or put in; with `pairs` each two ops replaced too.
 pub fn changes(from: &Chunk, others: &[Op], pairs: bool, see: &mut impl FnMut(Case)) {
     let make = |choices: &mut Choices| {
-        let mut ops: Vec<Op> = from.ops.iter().map(copied).collect();
-        let other =
-            |choices: &mut Choices| copied(&others[choices.below(others.len() as u64) as usize]);
+        let mut ops = from.ops.clone();
+        let other = |choices: &mut Choices| others[choices.below(others.len() as u64) as usize];
         let i = choices.below(ops.len() as u64) as usize;
         match choices.below(if pairs { 4 } else { 3 }) {
             0 => ops[i] = other(choices),
@@ -182,6 +195,7 @@ pub fn changes(from: &Chunk, others: &[Op], pairs: bool, see: &mut impl FnMut(Ca
         }
         with_ops(from, ops)
     };
-    see(Case::of(std::slice::from_ref(from)));
-    each(make, |chunk| see(Case::of(&[chunk])));
+    let mut number = 0;
+    seen(from.clone(), &mut number, see);
+    each(make, |chunk| seen(chunk, &mut number, see));
 }

@@ -3,12 +3,14 @@ use crate::kinds::*;
 use crate::refusals::{BAD_HEAD, BAD_WORD};
 
 /// A constant: an integer, or any other.
+#[derive(Clone, Copy)]
 pub enum Constant {
     Int(i64),
     Other,
 }
 
 /// An op by its kind and fields.
+#[derive(Clone, Copy)]
 pub struct Op {
     pub kind: u8,
     pub b: u8,
@@ -16,6 +18,7 @@ pub struct Op {
 }
 
 /// Func, Reentrant and Stream are the types 0, 1 and 2.
+#[derive(Clone)]
 pub struct Chunk {
     pub locals: u16,
     pub mode: u8,

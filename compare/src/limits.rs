@@ -1,11 +1,12 @@
 //! Inputs about the limits of document 01, and its worked cases with the figures that it gives.
 use crate::case::Case;
-use crate::form::{Chunk, Op};
+use crate::form::{self, Chunk, Op};
 use crate::kinds::*;
 use crate::nesting::Around::{self, Arm, Body, FirstArm, SecondArm};
 use crate::nesting::{counted, nested};
-use crate::pieces::{chunk, chunk_l, chunk_l_array, op, ops};
+use crate::pieces::{chunk, chunk_l, chunk_l_array, op, ops, own_targets};
 use crate::refusals::*;
+use crate::strays;
 use crate::table::{self, Outcome};
 
 /// Nesting about 256 and far beyond it, with what is charged at the edge.
@@ -160,11 +161,104 @@ fn streams(see: &mut impl FnMut(Case)) {
     }
 }
 
+/// So many Loops in one another around a break, or around nothing.
+fn open_loops(loops: usize, inside: Option<Op>) -> Chunk {
+    let end = 2 * loops + usize::from(inside.is_some());
+    let mut ops: Vec<Op> = (0..loops).map(|i| op(LOOP, 0, end - i)).collect();
+    ops.extend(inside);
+    ops.extend((0..loops).map(|_| op(END_LOOP, 0, 0)));
+    chunk(FUNC, 0, &[], own_targets(ops))
+}
+
+/// A chunk, with its own targets and with each stray.
+fn with_strays(held: &Chunk, callees: &[u32], see: &mut impl FnMut(Case)) {
+    let each = strays::each(held).chain([held.clone()]);
+    each.for_each(|held| see(Case::new(form::write(&[held]), callees.to_vec())));
+}
+
+/// One stray of so many is taken where there are many breaks: about one of each break.
+const EACH_BREAK: usize = 7;
+
+/// Strays in few Loops and in as many as there may be, and before all that a walk may be refused by: nesting, open text, counts, the tallest stack.
+fn stray_breaks(see: &mut impl FnMut(Case)) {
+    let breaks = [BREAK, BREAK_IF].map(|kind| Some(op(kind, 0, 0)));
+    for loops in [1, 2, 31, 32, 33, 255, 256, 257, 511, 512, 513, 4_095, 8_190] {
+        for inside in [None, breaks[0], breaks[1]] {
+            with_strays(&open_loops(loops, inside), &[], see);
+        }
+    }
+    for blocks in [254, 255, 256, 257, 300] {
+        for inside in breaks {
+            let held = nested(blocks, &[Arm, SecondArm, Body, FirstArm], inside);
+            let some = strays::each(&held).step_by(EACH_BREAK);
+            for (open, mut strayed) in some.enumerate() {
+                strayed.extras = vec![0; open];
+                strayed.extras.push(u32::MAX);
+                see(Case::of(&[strayed]));
+            }
+        }
+    }
+    let tall = ops![CALL, LOOP 4, BREAK 4, END_LOOP];
+    with_strays(&chunk(FUNC, 1, &[], tall), &[u32::MAX], see);
+}
+
+/// Breaks before the range of a Stream chunk, in a Loop of it and behind it: only those in it are looked at.
+fn outside_breaks(see: &mut impl FnMut(Case)) {
+    let held = ops![YIELD, LOOP 5, BREAK, BREAK 4, BREAK 5, BREAK 6, BREAK_IF 1, BREAK_IF 5];
+    for before in &held {
+        for inside in &held {
+            for behind in &held {
+                let mut ops = ops![YIELD, STREAM, LOOP 5, YIELD, END_LOOP, RESET, YIELD];
+                (ops[0], ops[3], ops[6]) = (*before, *inside, *behind);
+                see(Case::of(&[chunk(STREAMING, 0, &[], ops)]));
+            }
+        }
+    }
+}
+
+/// A chunk for each refusal that the ops of one may meet, and one that meets none.
+fn each_refusal() -> Vec<Chunk> {
+    let func = |ops| chunk(FUNC, 0, &[], ops);
+    let mut open = func(ops![YIELD]);
+    open.extras = vec![u32::MAX];
+    vec![
+        func(vec![]),
+        chunk(STREAMING, 0, &[], vec![]),
+        chunk(STREAMING, 0, &[], ops![STREAM]),
+        func(ops![IF]),
+        func(ops![END_IF]),
+        nested(257, &[Arm], None),
+        open,
+        func(ops![LOOP 2, END_LOOP]),
+        func(ops![LOOP 3, BREAK, END_LOOP]),
+        func(ops![YIELD, LOOP 4, BREAK_IF 5, END_LOOP]),
+    ]
+}
+
+/// Modules of three of them, in which each chunk calls the next one, the one before, or one that there is not: in a sheet the first refusal in call order
+/// counts.
+fn first_refusals(see: &mut impl FnMut(Case)) {
+    let held = each_refusal();
+    let n = held.len();
+    for k in 0..n.pow(3) {
+        for callee in [|c| c + 1, |c: usize| c.wrapping_sub(1), |_| usize::MAX] {
+            let mut chunks = [k % n, k / n % n, k / n / n].map(|i| held[i].clone());
+            for (c, chunk) in chunks.iter_mut().enumerate() {
+                chunk.ops.push(op(CALL, 0, callee(c)));
+            }
+            see(Case::of(&chunks));
+        }
+    }
+}
+
 pub fn all(mut see: impl FnMut(Case)) {
     nesting(&mut see);
     counts(&mut see);
     sizes(&mut see);
     streams(&mut see);
+    stray_breaks(&mut see);
+    outside_breaks(&mut see);
+    first_refusals(&mut see);
 }
 
 /// Document 01's own figures, as it gives them: the chunk, the callee bytes, and the values of the cycle walk and of the stack walk that it names.
@@ -238,7 +332,7 @@ fn row_cases() -> Vec<Worked> {
     let trapped = func(ops![CONST, IF 4, TRAP, ELSE 5, YIELD, END_IF, RETURN]);
     let empty = chunk(FUNC, 3, &[], vec![]);
     let nothing = chunk(STREAMING, 0, &[], ops![RESET, STREAM]);
-    let looped = func(ops![LOOP 3, BREAK, END_LOOP]);
+    let looped = func(ops![LOOP 3, BREAK 3, END_LOOP]);
     let blocks = |n| nested(n, &[Arm], None);
     let deep = || refused(TOO_DEEP, 0);
     let crossed = || refused(CROSSED, 0);

@@ -1,7 +1,7 @@
 //! Blocks in one another: Ifs, Loops that a Break leaves, and counted loops.
 use crate::form::{Chunk, Op};
 use crate::kinds::*;
-use crate::pieces::{chunk, header, op, tail};
+use crate::pieces::{chunk, header, op, own_targets, tail};
 
 /// A block around others: an If, an If with an Else whose first or second arm goes on inside, or a Loop that a Break leaves.
 #[derive(Clone, Copy, PartialEq)]
@@ -44,7 +44,7 @@ pub fn nested(depth: usize, around: &[Around], inside: Option<Op>) -> Chunk {
         }
         ops.push(op(if block == Body { END_LOOP } else { END_IF }, 0, 0));
     }
-    chunk(FUNC, 0, &[], ops)
+    chunk(FUNC, 0, &[], own_targets(ops))
 }
 
 /// A counted loop in a counted loop and so on, each with its own two locals set before it, and `inside` at the middle.
@@ -69,5 +69,6 @@ pub fn counted(depth: usize, passes: i64, inside: Vec<Op>) -> Chunk {
         ops.push(op(END_LOOP, 0, 0));
         ops[from].a = ops.len() as u16;
     }
+    let ops = own_targets(ops);
     chunk(FUNC, 2 * depth as u16, &[0, passes, 1], ops)
 }

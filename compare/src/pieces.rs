@@ -18,7 +18,29 @@ macro_rules! ops {
 }
 pub(crate) use ops;
 
-/// The header test of a loop that counts slot v up to slot e.
+/// The innermost Loop around position `i`: the last before it whose target is behind it.
+pub fn loop_around(ops: &[Op], i: usize) -> Option<usize> {
+    (0..i).rfind(|&p| ops[p].kind == LOOP && i < usize::from(ops[p].a))
+}
+
+pub fn is_break(op: &Op) -> bool {
+    matches!(op.kind, BREAK | BREAK_IF)
+}
+
+/// The ops with the target of the innermost Loop around it in each Break and BreakIf that has one, as request 2.4 asks. Lists are put together before their
+/// loops' ends are known, so this comes last.
+pub fn own_targets(mut ops: Vec<Op>) -> Vec<Op> {
+    for i in 0..ops.len() {
+        if is_break(&ops[i])
+            && let Some(p) = loop_around(&ops, i)
+        {
+            ops[i].a = ops[p].a;
+        }
+    }
+    ops
+}
+
+/// The header test of a loop that counts slot v up to slot e. `own_targets` files where its BreakIf goes.
 pub fn header(v: usize, e: usize) -> [Op; 4] {
     [
         op(GET_LOCAL, 0, v),
@@ -93,5 +115,6 @@ pub fn chunk_l_array(length: usize) -> Chunk {
     ];
     held.ops.splice(2..3, array);
     held.ops[9].a = 20;
+    held.ops[13].a = 20;
     held
 }

@@ -1,7 +1,7 @@
 //! Random modules whose ops are mostly rows: arms, counted loops, breaks, traps and calls, with near misses of each.
 use crate::form::{Chunk, Constant, Op, uses_a};
 use crate::kinds::*;
-use crate::pieces::{header, op, tail};
+use crate::pieces::{self, header, op, tail};
 use crate::random::Random;
 
 /// Where the Calls of a module may lead, besides out of it.
@@ -319,7 +319,16 @@ impl Maker<'_> {
     }
 }
 
-/// The chunks of a module; most have few.
+/// The chunks with their breaks' own targets.
+pub fn own_targets(chunks: Vec<Chunk>) -> Vec<Chunk> {
+    let own = |chunk: Chunk| Chunk {
+        ops: pieces::own_targets(chunk.ops),
+        ..chunk
+    };
+    chunks.into_iter().map(own).collect()
+}
+
+/// The chunks of a module; most have few. Their breaks name anything.
 pub fn module(random: &mut Random) -> Vec<Chunk> {
     let chunks = match random.below(1000) {
         0 => 1 + random.below(256),

@@ -1,11 +1,12 @@
 //! The stored questions: document 01's cases and what DECISIONS reads into it, every op kind, every refusal at different places, the limits, near misses of a
-//! count, callees, and random modules from a fixed seed.
+//! count, callees, random modules from a fixed seed, and stray breaks.
 mod calls;
 mod counted;
 mod library;
 mod readings;
 mod rows;
 mod stacks;
+mod strays;
 mod whole;
 
 use crate::form::{self, Chunk, Op};
@@ -186,5 +187,6 @@ pub fn all() -> Vec<Question> {
     library::all(&mut list);
     whole::longest(&mut list);
     whole::random_modules(&mut list, 18);
+    strays::all(&mut list);
     list.0
 }

@@ -1,4 +1,4 @@
-//! Document 01's refusals by their words.
+//! The documents' refusals by their words.
 pub const BAD_HEAD: u32 = 1;
 pub const BAD_WORD: u32 = 2;
 pub const NO_STREAM: u32 = 3;
@@ -13,3 +13,4 @@ pub const TOO_TALL: u32 = 11;
 pub const NO_SUCH_CHUNK: u32 = 12;
 pub const SHORT_TRAY: u32 = 13;
 pub const UNFIT_PART: u32 = 14;
+pub const STRAY_BREAK: u32 = 15;

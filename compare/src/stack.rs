@@ -21,7 +21,7 @@ mod refusals;
 use form::{Chunk, MOST_CHUNKS, MOST_WORDS, Op};
 use kinds::*;
 use lists::{Lists, chunks_of};
-use pieces::{chunk, chunk_l, header, op, ops, tail};
+use pieces::{chunk, chunk_l, header, op, ops, own_targets, tail};
 use pinnaclemug::{Cycles, ROW, Refusal};
 use std::io::Write;
 use std::process::{Command, Stdio, exit};
@@ -110,7 +110,7 @@ fn copies(number: usize, blocks: usize) -> Vec<Op> {
     counted.extend(tail(0, 0));
     counted.push(op(END_LOOP, 0, 0));
     ops.extend(ifs(start, blocks, counted));
-    ops
+    own_targets(ops)
 }
 
 /// The loop of `copies` counts from 1 to 5, 12 cycles each, with 5 for the break; before it stand 12 cycles and 2 for each copy.

@@ -14,7 +14,7 @@ pub enum Outcome {
     Spoilt,
 }
 
-/// What our answer has to be: the original's, or where document 01's own test sets the input apart, what that test says.
+/// What our answer has to be: the original's, or where a test that the documents alone have sets the input apart, what that test says.
 pub enum Expected {
     Same(Outcome),
     Apart(&'static str, Outcome),
@@ -206,6 +206,22 @@ pub fn refused(refusal: Refusal, c: usize) -> Outcome {
     Refused(refusal.0, c, refusal.1)
 }
 
+/// Why an input is set apart.
+const NO_ROW: &str = "no row";
+const STRAY: &str = "stray break";
+
+/// What a chunk is refused by before any walk that the original has no test for: 6, and behind it 15. Its answer is held against ours only where neither is
+/// met.
+fn set_apart(case: &Case, c: usize) -> Option<Expected> {
+    let refusal = document::chunk_row(&case.chunks[c]).err()?;
+    let reason = match refusal.0 {
+        CROSSED => NO_ROW,
+        STRAY_BREAK => STRAY,
+        _ => return None,
+    };
+    Some(Apart(reason, refused(refusal, c)))
+}
+
 /// Where the range is no row: refusal 6. The original is asked too where that is short, since its walk may take exponential time on such a range.
 fn crossed(chunk: &crate::bytecode::Chunk, c: usize) -> Expected {
     let reason = if chunk.ops.len() > 12 {
@@ -219,13 +235,19 @@ fn crossed(chunk: &crate::bytecode::Chunk, c: usize) -> Expected {
 }
 
 fn original_cycles(case: &Case, c: usize, _: usize) -> Expected {
-    if document::chunk_row(&case.chunks[c]).err() == Some(Refusal(CROSSED, 0)) {
-        return crossed(&case.module.chunks[c], c);
+    match set_apart(case, c) {
+        Some(Apart(NO_ROW, _)) => crossed(&case.module.chunks[c], c),
+        Some(apart) => apart,
+        None => Same(walked_cycles(case, c)),
     }
-    Same(match oracle::cycles(&case.module.chunks[c]) {
+}
+
+/// The original's cycles, and 1 if the row ends.
+fn walked_cycles(case: &Case, c: usize) -> Outcome {
+    match oracle::cycles(&case.module.chunks[c]) {
         Ok((cycles, ends)) => Answer(vec![i64::from(cycles), i64::from(ends)]),
         Err(refusal) => refused(refusal, c),
-    })
+    }
 }
 
 /// Our cycles; in a Stream chunk with those of Stream and Reset, which the original adds.
@@ -242,12 +264,13 @@ fn our_public_cycles(case: &Case, c: usize, _: usize) -> Outcome {
 fn original_public_cycles(case: &Case, c: usize, p: usize) -> Expected {
     let ours = || our_public_cycles(case, c, p);
     let chunk = &case.module.chunks[c];
-    match document::chunk_row(&case.chunks[c]).err() {
-        Some(Refusal(CROSSED, 0)) => return Apart("no row", Refused(CROSSED, c, 0)),
-        Some(refusal @ Refusal(NO_STREAM | NO_RESET, 0)) if oracle::forward(chunk).is_err() => {
-            return Apart("the original tests targets first", refused(refusal, c));
-        }
-        _ => {}
+    if let Some(apart) = set_apart(case, c) {
+        return apart;
+    }
+    if let Err(refusal @ Refusal(NO_STREAM | NO_RESET, 0)) = document::chunk_row(&case.chunks[c])
+        && oracle::forward(chunk).is_err()
+    {
+        return Apart("the original tests targets first", refused(refusal, c));
     }
     if case.chunks[c].mode == REENTRANT {
         return Apart("Reentrant: the original cuts at yields", ours());
@@ -262,8 +285,8 @@ fn original_public_cycles(case: &Case, c: usize, p: usize) -> Expected {
 pub const ENDS: i64 = i64::MAX;
 
 fn original_stack(case: &Case, c: usize, callees: &[u32]) -> Expected {
-    if document::chunk_row(&case.chunks[c]).err() == Some(Refusal(CROSSED, 0)) {
-        return Apart("no row", Refused(CROSSED, c, 0));
+    if let Some(apart) = set_apart(case, c) {
+        return apart;
     }
     match oracle::stack(&case.module.chunks[c], callees) {
         Ok((peak, _, _)) if document::too_tall(case.chunks[c].locals, i64::from(peak)) => {
@@ -294,10 +317,12 @@ fn original_sheet(case: &Case, _: usize, _: usize) -> Expected {
     let mut lines = vec![0; FIELDS * order.len()];
     let mut bytes = vec![0; order.len()];
     for c in order {
-        let cost = match original_cycles(case, c, 0) {
-            Same(Answer(cost)) => cost,
-            Apart(_, outcome) => return Apart("no row", outcome),
-            refused => return refused,
+        if let Some(apart) = set_apart(case, c) {
+            return apart;
+        }
+        let cost = match walked_cycles(case, c) {
+            Answer(cost) => cost,
+            refused => return Same(refused),
         };
         let stack = match original_stack(case, c, &bytes) {
             Same(Answer(stack)) => stack,

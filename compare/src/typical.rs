@@ -1,7 +1,7 @@
 //! A program of 300 words as a receiver may have it: a stream that reads eight wheels, checks each, and packs what it keeps.
 use crate::form::{Chunk, Op};
 use crate::kinds::*;
-use crate::pieces::{chunk, header, op, ops, tail};
+use crate::pieces::{chunk, header, op, ops, own_targets, tail};
 
 /// The ops of a chunk in the making. Its constants are 0, 8, 1 and others behind them.
 #[derive(Default)]
@@ -54,7 +54,7 @@ fn stream() -> Chunk {
     });
     body.push(ops![CALL 2, SET_DATA, GET_LOCAL 4, CALL 4 b 1, YIELD]);
     body.push(ops![POP_N b 1, RESET]);
-    let mut held = chunk(STREAMING, 5, &[0, 8, 1], body.0);
+    let mut held = chunk(STREAMING, 5, &[0, 8, 1], own_targets(body.0));
     held.extras = vec![0; 16];
     held.extras[3] = 40;
     held.extras[15] = 12;
@@ -88,7 +88,7 @@ fn mean() -> Chunk {
         one.push(ops![CHECKED_ADD, POP_N b 2, SET_LOCAL 2]);
     });
     body.push(ops![GET_LOCAL 2, CONST 1, DIV, RETURN]);
-    chunk(FUNC, 4, &[0, 8, 1], body.0)
+    chunk(FUNC, 4, &[0, 8, 1], own_targets(body.0))
 }
 
 /// A reading packed with its check bits.
@@ -101,7 +101,7 @@ fn packed() -> Chunk {
     });
     body.push(ops![GET_LOCAL, CONST 2, SHL, GET_LOCAL 3, BIT_OR]);
     body.push(ops![RETURN]);
-    chunk(FUNC, 6, &[0, 8, 1], body.0)
+    chunk(FUNC, 6, &[0, 8, 1], own_targets(body.0))
 }
 
 /// What is shown for so many missed wheels: a text, or a native's lamp.

@@ -2,7 +2,7 @@
 use super::{List, Question};
 use crate::form::{Chunk, Op};
 use crate::kinds::*;
-use crate::pieces::{chunk, chunk_l, chunk_l_array, header, op, ops, tail};
+use crate::pieces::{chunk, chunk_l, chunk_l_array, header, op, ops, own_targets, tail};
 use crate::refusals::*;
 
 fn l() -> Chunk {
@@ -43,7 +43,7 @@ fn near_misses(list: &mut List) {
     changed(list, "L, one slot for both", 6, op(GET_LOCAL, 0, 0)).refused(NO_COUNT, 0, 4);
     changed(list, "L, CmpGt for CmpGe", 7, op(CMP_GT, 0, 0));
     changed(list, "L, Not for BreakIf", 8, op(NOT, 0, 0));
-    changed(list, "L, Break for BreakIf", 8, op(BREAK, 0, 0));
+    changed(list, "L, Break for BreakIf", 8, op(BREAK, 0, 15));
     changed(list, "L, GetLocal 1 in the tail", 9, op(GET_LOCAL, 0, 1));
     changed(list, "L, step past the constants", 10, op(CONST, 0, 3));
     changed(list, "L, Add for CheckedAdd", 11, op(ADD, 0, 0));
@@ -77,10 +77,10 @@ fn bodies(list: &mut List) {
     longer(
         list,
         "L, break in a short arm",
-        ops![CONST, IF 12, BREAK, END_IF],
+        ops![CONST, IF 12, BREAK 19, END_IF],
     )
     .is(&[60, 1]);
-    let long = ops![IF 12, CALL_VERIFIED_NATIVE, BREAK, END_IF];
+    let long = ops![IF 12, CALL_VERIFIED_NATIVE, BREAK 19, END_IF];
     longer(list, "L, break in a long arm", long).is(&[93, 1]);
 }
 
@@ -135,6 +135,7 @@ fn counts(list: &mut List) {
         let mut held = l();
         held.ops.insert(9, op(SET_LOCAL, 0, slot));
         held.ops[4].a = 16;
+        held.ops[8].a = 16;
         let name = format!("L, SetLocal {slot} in the body, the count");
         list.count(&name, &[held], 0, 4);
     }
@@ -146,7 +147,7 @@ fn eleven(mode: u8, locals: u16, mut ops: Vec<Op>) -> [Chunk; 1] {
     ops.extend(header(0, 1));
     ops.extend(tail(0, 1));
     ops.extend(ops![END_LOOP, RESET]);
-    [chunk(mode, locals, &[0, 1], ops)]
+    [chunk(mode, locals, &[0, 1], own_targets(ops))]
 }
 
 /// The cycle walk and the count of such a chunk.

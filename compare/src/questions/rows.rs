@@ -46,20 +46,20 @@ fn outside(list: &mut List) {
         .refused(NO_STREAM, 0, 0);
 }
 
-/// Refusal 5, and targets that may stand. The operands of EndLoop, Break and BreakIf are free.
+/// Refusal 5, and targets that may stand. The operand of EndLoop is free.
 fn targets(list: &mut List) {
     list.func("If to the length", ops![IF 2, YIELD])
         .refused(CROSSED, 0, 0);
     list.func("If past the length", ops![IF 3, YIELD]);
-    list.func("Loop to the length", ops![LOOP 3, BREAK, END_LOOP])
+    list.func("Loop to the length", ops![LOOP 3, BREAK 3, END_LOOP])
         .is(&[2, 0]);
-    list.func("Loop past the length", ops![LOOP 4, BREAK, END_LOOP]);
+    list.func("Loop past the length", ops![LOOP 4, BREAK 4, END_LOOP]);
     list.func("Loop backward, then If", ops![YIELD, LOOP 1, IF]);
     list.func("Else backward", ops![IF 2, ELSE 1, END_IF]);
     list.func("backward behind EndIf", ops![END_IF, IF 1]);
     list.func(
-        "operands not read",
-        ops![LOOP 3, BREAK 65535, END_LOOP 65535],
+        "operand of EndLoop not read",
+        ops![LOOP 3, BREAK 3, END_LOOP 65535],
     )
     .is(&[2, 0]);
 }
@@ -80,7 +80,10 @@ fn crossed(list: &mut List) {
         ("Break outside", ops![YIELD, BREAK]),
         ("BreakIf outside", ops![YIELD, BREAK_IF]),
         ("Break in an arm outside", ops![IF 2, BREAK, END_IF]),
-        ("Break behind a loop", ops![LOOP 3, BREAK, END_LOOP, BREAK]),
+        (
+            "Break behind a loop",
+            ops![LOOP 3, BREAK 3, END_LOOP, BREAK],
+        ),
     ];
     for (name, ops) in rows {
         list.func(name, ops).refused(CROSSED, 0, 0);
@@ -97,24 +100,24 @@ fn arms(list: &mut List) {
 
 /// A body ends without a break if the walk visits none.
 fn loops(list: &mut List) {
-    list.func("Loop, Break, EndLoop", ops![LOOP 3, BREAK, END_LOOP]);
+    list.func("Loop, Break, EndLoop", ops![LOOP 3, BREAK 3, END_LOOP]);
     list.func("Loop, EndLoop", ops![LOOP 2, END_LOOP]);
     list.func(
         "Break behind Return",
-        ops![LOOP 4, RETURN, BREAK, END_LOOP, YIELD],
+        ops![LOOP 4, RETURN, BREAK 4, END_LOOP, YIELD],
     )
     .is(&[3, 1]);
     list.func(
         "Break in an arm, then Return",
-        ops![LOOP 6, IF 3, BREAK, END_IF, RETURN, END_LOOP, YIELD],
+        ops![LOOP 6, IF 3, BREAK 6, END_IF, RETURN, END_LOOP, YIELD],
     );
     list.func(
         "Break of an inner loop, then Break",
-        ops![LOOP 6, LOOP 4, BREAK, END_LOOP, BREAK, END_LOOP, YIELD],
+        ops![LOOP 6, LOOP 4, BREAK 4, END_LOOP, BREAK 6, END_LOOP, YIELD],
     );
     list.func(
         "Break of an inner loop, then Return",
-        ops![LOOP 6, LOOP 4, BREAK, END_LOOP, RETURN, END_LOOP, YIELD],
+        ops![LOOP 6, LOOP 4, BREAK 4, END_LOOP, RETURN, END_LOOP, YIELD],
     );
 }
 
@@ -177,8 +180,8 @@ fn open_texts(list: &mut List) {
 /// Ops that are not charged are not looked at.
 fn not_visited(list: &mut List) {
     let plain = ops![CONST, RETURN, YIELD, YIELD, YIELD];
-    let once = ops![LOOP 3, BREAK, END_LOOP, YIELD, YIELD];
-    let ended = || ops![LOOP 4, RETURN, BREAK, END_LOOP, YIELD];
+    let once = ops![LOOP 3, BREAK 3, END_LOOP, YIELD, YIELD];
+    let ended = || ops![LOOP 4, RETURN, BREAK 4, END_LOOP, YIELD];
     let stream = || ops![CONST, STREAM, YIELD, RESET, YIELD];
     for (name, mode, ops, i, said) in [
         ("open text behind Return", FUNC, plain, 2, [3, 1]),
@@ -261,6 +264,7 @@ fn reentrant(list: &mut List) {
     yielding.mode = REENTRANT;
     yielding.ops.insert(9, op(YIELD, 0, 0));
     yielding.ops[4].a = 16;
+    yielding.ops[8].a = 16;
     list.cycles("L Reentrant, Yield in the body", &[yielding], 0);
     let two = chunk(REENTRANT, 0, &[], ops![YIELD, YIELD]);
     list.sheet("two Yields, Reentrant", &[two]);

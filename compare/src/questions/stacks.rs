@@ -116,7 +116,7 @@ fn loops(list: &mut List) {
     alone(list, "loop left by a break", left);
     let ends = ops![LOOP 4, CONST, RETURN, END_LOOP, CONST, CONST];
     alone(list, "body that ends", ends).is(&[1, ENDS, 32]);
-    let dead = ops![LOOP 4, RETURN, BREAK, END_LOOP, YIELD];
+    let dead = ops![LOOP 4, RETURN, BREAK 4, END_LOOP, YIELD];
     alone(list, "break behind a Return", dead).is(&[0, ENDS, 0]);
     alone(
         list,

@@ -13,8 +13,8 @@ fn alone(kind: u8, b: u8, a: usize, behind: usize) -> Chunk {
     ops.extend(match kind {
         IF | END_IF => ops![IF 7, END_IF],
         ELSE => ops![IF 8, ELSE 8, END_IF],
-        LOOP..=BREAK => ops![LOOP 9, BREAK, END_LOOP],
-        BREAK_IF => ops![LOOP 10, BREAK_IF, BREAK, END_LOOP],
+        LOOP..=BREAK => ops![LOOP 9, BREAK 9, END_LOOP],
+        BREAK_IF => ops![LOOP 10, BREAK_IF 10, BREAK 10, END_LOOP],
         _ => vec![op(kind, b, a)],
     });
     ops.extend((0..behind).map(|_| op(DUP, 0, 0)));
@@ -88,7 +88,7 @@ pub fn random_modules(list: &mut List, modules: usize) {
     let mut random = Random(1);
     let mut made = 0;
     while made < modules {
-        let held = programs::module(&mut random);
+        let held = programs::own_targets(programs::module(&mut random));
         let callees = programs::callees(&mut random, held.len());
         let c = random.below(held.len() as u64) as usize;
         if form::write(&held).len() > 300 {

@@ -51,7 +51,7 @@ pub fn wcet_region(
     wcet_region_at(constants, ops, extras, wholes, from, to, LEVELS, none)
 }
 
-// The cycle walk of the chunk with these parts: 3, 4, 5, 6, and 7 to 9 as the walk meets them. No callee is charged.
+// The cycle walk of the chunk with these parts: 3, 4, 5, 6, 15, and 7 to 9 as the walk meets them. No callee is charged.
 fn chunk_cycles(words: &[u32], p: Parts) -> Walk
     requires { ⌜ PartsFit (now words) p ⌝ }
     ensures { λ r. ⌜ ((k : Chunk) → PartsOf (now (words .entry)) p k → walkResult r ≡ chunkCost k) ⌝ }

@@ -21,7 +21,7 @@ places = 4294967296
 abbrev pub numberUnit : ℕ
 numberUnit = chunks * places
 
--- A refusal: number, chunk and place in 8, 24 and 32 bits. Numbers are 1 to 14, chunks and positions of a module end at 16,384; a chunk or a position that
+-- A refusal: number, chunk and place in 8, 24 and 32 bits. Numbers are 1 to 15, chunks and positions of a module end at 16,384; a chunk or a position that
 -- is handed in is kept modulo 2^24 and 2^32. No answer reaches the bits of the number.
 abbrev pub packedRefusal : ℕ → ℕ → ℕ → ℕ
 packedRefusal n c p = n % numbers * numberUnit + c % chunks * places + p % places

@@ -31,7 +31,7 @@ pub enum LineAnswer {
     Refused { number: u32, place: usize },
 }
 
-// The line of the chunk with these parts, over the stack bytes and the whole figures of its callees: 3, 4, 5, 6, the cycle walks, the stack walk, 11.
+// The line of the chunk with these parts, over the stack bytes and the whole figures of its callees: 3, 4, 5, 6, 15, the cycle walks, the stack walk, 11.
 pub fn chunk_line(words: &[u32], p: Parts, callees: &[u32], wholes: &[u32]) -> LineAnswer
     requires { ⌜ PartsFit (now words) p ⌝ }
     ensures { λ r. ⌜ ((k : Chunk) → PartsOf (now (words .entry)) p k → lineResult r ≡ chunkLine k (now (callees .entry)) (now (wholes .entry))) ⌝ }

@@ -4,6 +4,8 @@ pub mod RangeLaws
 pub mod DecisionLaws
 pub mod TurnLaws
 pub mod OpenBlocks
+pub mod OpenLoops
+pub mod LoopArray
 pub mod BlockArray
 pub mod Openings
 pub mod PartRows

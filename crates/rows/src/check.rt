@@ -3,6 +3,8 @@ use crate::range::Range;
 use crate::range::RangeAnswer;
 use crate::range::check_forward_control_flow_targets;
 use crate::range::range_of;
+use crate::room;
+use crate::stray::first_stray;
 use words::fields;
 use words::found::Found;
 use words::kinds;
@@ -126,31 +128,30 @@ fn row_within(ops: &[u32], from: usize, to: usize, ends: &mut [u32]) -> bool
     true
 }
 
-// Whether the positions from `from` up to `to` are a row. To make the largest array takes longer than to check a small range, so a small range has a
-// small one.
+// Whether the positions from `from` up to `to` are a row.
 pub fn is_row(ops: &[u32], from: usize, to: usize) -> bool
     requires { ⌜ (from ≤ to) × (to ≤ length (now ops)) × (length (now ops) ≤ mostWords) ⌝ }
     ensures { λ r. ⌜ r ≡ isRow (parse (to - from) (opAt (now (ops .entry))) false from to) ⌝ }
 {
-    if to - from <= 64 {
-        let mut ends = [0u32; 32];
+    if to - from <= room::FEW_OPS {
+        let mut ends = [0u32; room::FEW_PLACES];
         return row_within(ops, from, to, &mut ends);
     }
-    if to - from <= 1024 {
-        let mut ends = [0u32; 512];
+    if to - from <= room::SOME_OPS {
+        let mut ends = [0u32; room::SOME_PLACES];
         return row_within(ops, from, to, &mut ends);
     }
-    let mut ends = [0u32; 8192];
+    let mut ends = [0u32; room::MOST_PLACES];
     row_within(ops, from, to, &mut ends)
 }
 
-// The range of a chunk that may be walked, or refusal 3, 4, 5 or 6.
+// The range of a chunk that may be walked, or refusal 3, 4, 5, 6 or 15.
 pub enum RowAnswer {
     Is(Range),
     Refused { number: u32, place: usize },
 }
 
-// The tests before a walk, in their order: 3, 4, 5, 6.
+// The tests before a walk, in their order: 3, 4, 5, 6, 15.
 pub fn chunk_row(mode: u32, ops: &[u32]) -> RowAnswer
     requires { ⌜ length (now ops) ≤ mostWords ⌝ }
     ensures { λ r. ⌜ rowResult r ≡ rangeRow mode (now (ops .entry)) ⌝ }
@@ -173,6 +174,13 @@ pub fn chunk_row(mode: u32, ops: &[u32]) -> RowAnswer
         return RowAnswer::Refused {
             number: refusals::CROSSED,
             place: 0,
+        };
+    }
+    let stray = first_stray(ops, range.from, range.to);
+    if let Found::At(place) = stray {
+        return RowAnswer::Refused {
+            number: refusals::STRAY_BREAK,
+            place,
         };
     }
     RowAnswer::Is(range)

@@ -11,7 +11,7 @@ use lib.ListN.{replicate}
 use Rattle.rules.specs.Ops.{word, inGroups}
 use Rattle.rules.specs.Form.{integer, Chunk, moduleWords}
 use Rattle.rules.specs.Reading.{brokenAt, takeWhile, dropWhile, constantsOf, extrasOf, chunksOf}
-use Rattle.rules.specs.Rows.{parse, firstBackward}
+use Rattle.rules.specs.Rows.{parse, firstBackward, strayBreak}
 use Rattle.rules.specs.Count.{lastSet, neverSets}
 use Rattle.rules.specs.Limits.{cycleCap}
 use Rattle.rules.specs.Cycles.{rowCost}
@@ -55,7 +55,7 @@ numbers =
     }
 
 pub witness-accepted : Accepted (moduleWords pair) 8 pair numbers
-unfolding flatMap inGroups brokenAt takeWhile dropWhile constantsOf extrasOf chunksOf parse firstBackward lastSet neverSets rowCost rowHeight member calleesIn visitEach visit upFrom linesIn
+unfolding flatMap inGroups brokenAt takeWhile dropWhile constantsOf extrasOf chunksOf parse firstBackward strayBreak lastSet neverSets rowCost rowHeight member calleesIn visitEach visit upFrom linesIn
 witness-accepted = record { reads = refl; answers = refl }
 
 -- The ops up to Loop; a pass by the If's arm; a pass by Else's; the break by the header, and Return. In each pass n ops of the callee are run.

@@ -3,7 +3,7 @@ use mathlib.Core.Path.{refl}
 use mathlib.Core.List.{flatMap}
 use Rattle.rules.specs.Ops.{inGroups}
 use Rattle.rules.specs.Reading.{brokenAt, takeWhile, dropWhile, constantsOf, extrasOf, chunksOf}
-use Rattle.rules.specs.Rows.{parse, firstOf, firstBackward}
+use Rattle.rules.specs.Rows.{parse, firstOf, firstBackward, strayBreak}
 use Rattle.rules.specs.Count.{lastSet, arrayLength, neverSets}
 use Rattle.rules.specs.Cycles.{rowCost}
 use Rattle.rules.specs.Stack.{rowHeight}
@@ -11,28 +11,33 @@ use Rattle.rules.specs.Order.{member, calleesIn, visitEach, visit, upFro
 use Rattle.rules.specs.Sheet.{linesIn}
 use Rattle.rules.specs.Text.{wordsOf, bytesIn, digits, linesText}
 use Rattle.rules.specs.Writing.{trimmed, every, heldConstants, heldOps, held}
-use Rattle.rules.specs.Cases.{AllHold, documented, settled, levelled}
+use Rattle.rules.specs.Cases.{AllHold, documented, settled, levelled, strayed}
 use Rattle.rules.specs.CalleeCases.{shared}
 use Rattle.rules.specs.WritingCases.{shelved}
 
 -- document 01's P cases
 pub documented-hold : AllHold documented
-unfolding flatMap inGroups brokenAt takeWhile dropWhile constantsOf extrasOf chunksOf parse firstOf firstBackward lastSet arrayLength neverSets rowCost rowHeight member calleesIn visitEach visit upFrom linesIn wordsOf digits linesText bytesIn
+unfolding flatMap inGroups brokenAt takeWhile dropWhile constantsOf extrasOf chunksOf parse firstOf firstBackward strayBreak lastSet arrayLength neverSets rowCost rowHeight member calleesIn visitEach visit upFrom linesIn wordsOf digits linesText bytesIn
 documented-hold = (refl, (refl, (refl, (refl, (refl, (refl, (refl, (refl, (refl, (refl, (refl, (refl, (refl, (refl, (refl, tt)))))))))))))))
 
 -- what was settled where its words leave a choice
 pub settled-hold : AllHold settled
-unfolding flatMap inGroups brokenAt takeWhile dropWhile constantsOf extrasOf chunksOf parse firstOf firstBackward lastSet arrayLength neverSets rowCost rowHeight member calleesIn visitEach visit upFrom linesIn wordsOf digits linesText bytesIn
+unfolding flatMap inGroups brokenAt takeWhile dropWhile constantsOf extrasOf chunksOf parse firstOf firstBackward strayBreak lastSet arrayLength neverSets rowCost rowHeight member calleesIn visitEach visit upFrom linesIn wordsOf digits linesText bytesIn
 settled-hold = (refl, (refl, (refl, (refl, (refl, (refl, (refl, (refl, (refl, (refl, (refl, (refl, (refl, (refl, (refl, (refl, (refl, (refl, (refl, (refl, tt))))))))))))))))))))
 
 -- the levels of nesting
 pub levelled-hold : AllHold levelled
-unfolding flatMap inGroups brokenAt takeWhile dropWhile constantsOf extrasOf chunksOf parse firstBackward rowCost rowHeight
+unfolding flatMap inGroups brokenAt takeWhile dropWhile constantsOf extrasOf chunksOf parse firstBackward strayBreak rowCost rowHeight
 levelled-hold = (refl, (refl, (refl, (refl, (refl, (refl, (refl, (refl, tt))))))))
+
+-- breaks and the Loops around them
+pub strayed-hold : AllHold strayed
+unfolding flatMap inGroups brokenAt takeWhile dropWhile constantsOf extrasOf chunksOf parse firstOf firstBackward strayBreak lastSet neverSets rowCost rowHeight member calleesIn visitEach visit upFrom linesIn
+strayed-hold = (refl, (refl, (refl, (refl, (refl, (refl, (refl, (refl, (refl, (refl, (refl, (refl, (refl, (refl, (refl, (refl, (refl, (refl, (refl, (refl, tt))))))))))))))))))))
 
 -- charged callees
 pub shared-hold : AllHold shared
-unfolding flatMap inGroups brokenAt takeWhile dropWhile constantsOf extrasOf chunksOf parse firstOf firstBackward lastSet arrayLength neverSets rowCost rowHeight member calleesIn visitEach visit upFrom linesIn wordsOf digits linesText bytesIn
+unfolding flatMap inGroups brokenAt takeWhile dropWhile constantsOf extrasOf chunksOf parse firstOf firstBackward strayBreak lastSet arrayLength neverSets rowCost rowHeight member calleesIn visitEach visit upFrom linesIn wordsOf digits linesText bytesIn
 shared-hold = (refl, (refl, (refl, (refl, (refl, (refl, (refl, (refl, (refl, (refl, (refl, (refl, (refl, (refl, tt))))))))))))))
 
 -- the writer

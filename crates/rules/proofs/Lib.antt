@@ -11,6 +11,7 @@ pub mod ReadingFinishes
 pub mod ReadingPlace
 pub mod Shapes
 pub mod RowTree
+pub mod Strays
 pub mod Capped
 pub mod Members
 pub mod Mapped

@@ -8,13 +8,15 @@ use native.Mathlib.Omega.{arith}
 use borrow.Author.Tests.{ltb-true, ltb-false, eqb-true, lt-ltb, le-ltb, ne-eqb}
 use lib.Dec.{eqb, ltb}
 use Rattle.rules.specs.Kinds as K
+use Rattle.rules.specs.Numbers as N
 use Rattle.rules.specs.Outcome.{ok, no, Found, found, nothing, andThen}
 use Rattle.rules.specs.Ops.{kind, fieldA, opAt}
 use Rattle.rules.specs.Form.{Chunk}
 use Rattle.rules.specs.Rows.{Shape, plain, trap, returns, ifTo, elseTo, endIf, loopTo, endLoop, breaks, breaksIf, calls, shapeOf}
 use Rattle.rules.specs.Rows.{Row, end, step, stop, leave, leaveIf, ifThen, ifElse, loop, Plain, Ending, IsRow, Parsed, row, crossed}
 use Rattle.rules.specs.Rows.{onRow, parsedIf, parseIf, parseElse, parseEither, parseLoop, parseOp, parseIn, parse}
-use Rattle.rules.specs.Rows.{Range, firstOf, orRefuse, rangeIf, rangeOf, forwardTargets, orCrossed, rowOf, walkable, chunkRow}
+use Rattle.rules.specs.Rows.{Range, firstOf, orRefuse, rangeIf, rangeBy, rangeOf, forwardTargets, orCrossed, rowOf}
+use Rattle.rules.specs.Rows.{unlessFound, strayBreak, ownTargets, Walkable, walkable, chunkRow}
 use Rattle.rules.specs.Paths.{rangeFound}
 use Rattle.rules.proofs.Answers.{from-ok}
 use Rattle.rules.proofs.Flags.{both}
@@ -272,12 +274,25 @@ pub record InRange (c : Chunk) (r : Row) : Type 0 where
   pub forward : rangeFound (rangeOf c) .from ≤ rangeFound (rangeOf c) .to
   pub is-row : IsRow (opAt (c .ops)) false (rangeFound (rangeOf c) .from) (rangeFound (rangeOf c) .to) r
 
+-- a row that passes 15 is the row of the range
+own-row : (ops : List ℕ) (r own : Row) → ownTargets ops r ≡ ok own → r ≡ own
+own-row ops r own e = let (u, _, same) = from-ok (unlessFound (strayBreak (opAt ops) 0 r) N.strayBreak) _ e in cc
+
+-- what may be walked is the range and its tree
+pub walked-row : (type : ℕ) (ops : List ℕ) (w : Walkable) → walkable type ops ≡ ok w → (rangeBy type ops ≡ ok (w .range)) × (rowOf ops (w .range) ≡ ok (w .tree))
+walked-row type ops w e =
+    let (g, a, f) = from-ok (rangeBy type ops) _ e in
+    let (u, _, k) = from-ok (forwardTargets ops) _ f in
+    let (r, b, m) = from-ok (rowOf ops g) _ k in
+    let (own, c, made) = from-ok (ownTargets ops r) _ m in
+    let same : r ≡ own = own-row ops r own c in
+    let range : g ≡ w .range = cc made in
+    let tree : own ≡ w .tree = cc made in
+    (a ∙ ap ok range, rw (← range) (b ∙ ap ok (same ∙ tree)))
+
 pub chunk-row : (c : Chunk) (r : Row) → chunkRow c ≡ ok r → InRange c r
 chunk-row c r e =
-    let w = from-ok (walkable (c .type) (c .ops)) _ e in
-    let g = from-ok (rangeOf c) _ (w .1) in
-    let t = from-ok (forwardTargets (c .ops)) _ (g .2) in
-    let s = from-ok (rowOf (c .ops) (g .0)) _ (t .2) in
-    let same : ok (s .0) ≡ ok r = cc (s .2, w .2) in
-    let le = range-forward c (g .0) (g .1) in
-    record { forward = rw (g .1) le; is-row = rw (g .1) (row-some (c .ops) (g .0) r le (s .1 ∙ same)) }
+    let (w, walks, is) = from-ok (walkable (c .type) (c .ops)) _ e in
+    let (range, tree) = walked-row (c .type) (c .ops) w walks in
+    let le = range-forward c (w .range) range in
+    record { forward = rw range le; is-row = rw range (row-some (c .ops) (w .range) r le (tree ∙ is)) }

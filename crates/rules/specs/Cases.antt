@@ -1,11 +1,13 @@
--- The cases of document 01 that are marked P, from filed words to what comes of them, worked cases of the readings of its sentences, and request 2.3's.
+-- The cases of document 01 that are marked P, from filed words to what comes of them, worked cases of the readings of its sentences, and those of requests
+-- 2.3 and 2.4.
 -- proofs/Checked proves each list as a whole, by computation.
 use mathlib.Core.Path.{_≡_}
 use mathlib.Core.Bool.{Bool, true, false}
-use mathlib.Core.List.{List, [], _∷_}
+use mathlib.Core.List.{List, [], _∷_, _++_}
 use Prim.Native.Nat.{ℕ, zero, suc, _+_, _-_, _*_, _^_}
 use Prim.Native.String.{String}
 use lib.IntN.{ℤ, pos, negsuc}
+use lib.ListN.{length}
 use Rattle.rules.specs.Kinds as K
 use Rattle.rules.specs.Limits as M
 use Rattle.rules.specs.Outcome.{Outcome, answer, refused}
@@ -13,7 +15,7 @@ use Rattle.rules.specs.Ops.{word}
 use Rattle.rules.specs.Form.{Constant, integer, other, Chunk, moduleWords}
 use Rattle.rules.specs.Cycles.{Cycles}
 use Rattle.rules.specs.Stack.{Stack, Delta, offset, ends}
-use Rattle.rules.specs.Sheet.{Sheet, readOutcome, cyclesOutcome, stackOutcome, orderOutcome, lineWidth, sheetOutcome}
+use Rattle.rules.specs.Sheet.{Sheet, readOutcome, countOutcome, cyclesOutcome, stackOutcome, orderOutcome, lineWidth, sheetOutcome}
 use Rattle.rules.specs.Text.{bytesIn, textOf, sheetText}
 
 -- a case: what it is called, and what it says
@@ -36,13 +38,17 @@ func locals constants ops extras =
     record { locals = locals; type = 0; constants = constants; ops = ops; extras = extras }
 
 -- "Chunk L: locals 2, constants 0, 3, 1, type Func, ops: `Const 0, SetLocal 0, Const 1, SetLocal 1, Loop 15, GetLocal 0, GetLocal 1,
--- CmpGe, BreakIf 15, GetLocal 0, Const 2, CheckedAdd, PopN 2, SetLocal 0, EndLoop 5, Return`", with its three constants left open
-abbrev pub chunkL : ℤ → ℤ → ℤ → Chunk
-chunkL start stop step =
+-- CmpGe, BreakIf 15, GetLocal 0, Const 2, CheckedAdd, PopN 2, SetLocal 0, EndLoop 5, Return`", with its three constants and the operand of its
+-- BreakIf left open
+abbrev pub headerTo : ℕ → ℤ → ℤ → ℤ → Chunk
+headerTo target start stop step =
     func 2 (integer start ∷ integer stop ∷ integer step ∷ [])
-    (op K.Const 0 ∷ op K.SetLocal 0 ∷ op K.Const 1 ∷ op K.SetLocal 1 ∷ op K.Loop 15 ∷ op K.GetLocal 0 ∷ op K.GetLocal 1 ∷ op K.CmpGe 0 ∷ op K.BreakIf 15
+    (op K.Const 0 ∷ op K.SetLocal 0 ∷ op K.Const 1 ∷ op K.SetLocal 1 ∷ op K.Loop 15 ∷ op K.GetLocal 0 ∷ op K.GetLocal 1 ∷ op K.CmpGe 0 ∷ op K.BreakIf target
     ∷ op K.GetLocal 0 ∷ op K.Const 2 ∷ op K.CheckedAdd 0 ∷ word K.PopN 2 0 ∷ op K.SetLocal 0 ∷ op K.EndLoop 5 ∷ op K.Return 0 ∷ [])
     []
+
+abbrev pub chunkL : ℤ → ℤ → ℤ → Chunk
+chunkL start stop step = headerTo 15 start stop step
 
 -- a chunk alone as a module, in words and in bytes
 abbrev pub alone : Chunk → List ℕ
@@ -159,8 +165,8 @@ settled =
       claim = sheet (stream (op K.Break 0 ∷ op K.Stream 0 ∷ op K.Yield 0 ∷ op K.Reset 0 ∷ [])) ≡ one 1 0 0;
     }
     ∷ record {
-      name = "reading 7: Loop 4, Return, Break, EndLoop, Yield gives 3 cycles and ends";
-      claim = cyclesOutcome (alone (caller (op K.Loop 4 ∷ op K.Return 0 ∷ op K.Break 0 ∷ op K.EndLoop 0 ∷ op K.Yield 0 ∷ []))) 0 ≡ cycles 3 true;
+      name = "reading 7: Loop 4, Return, Break 4, EndLoop, Yield gives 3 cycles and ends";
+      claim = cyclesOutcome (alone (caller (op K.Loop 4 ∷ op K.Return 0 ∷ op K.Break 4 ∷ op K.EndLoop 0 ∷ op K.Yield 0 ∷ []))) 0 ≡ cycles 3 true;
     }
     ∷ record {
       name = "reading 10: PopN 9, If 3, Const 0, EndIf has peak 1";
@@ -185,7 +191,7 @@ settled =
     ∷ record { name = "an If whose target is the length is refusal 6"; claim = sheet (caller (op K.If 1 ∷ [])) ≡ refused 6 0 0 }
     ∷ record {
       name = "EndLoop is not charged to a body that never gets there; Loop's target may be the length";
-      claim = sheet (caller (op K.Loop 3 ∷ op K.Break 0 ∷ op K.EndLoop 0 ∷ [])) ≡ one 2 0 0;
+      claim = sheet (caller (op K.Loop 3 ∷ op K.Break 3 ∷ op K.EndLoop 0 ∷ [])) ≡ one 2 0 0;
     }
     ∷ record { name = "the count is not divided by the step"; claim = sheet (chunkL (pos 0) (pos 3) (pos 2)) ≡ one 48 3 160 }
     ∷ record {
@@ -205,10 +211,10 @@ settled =
     }
     ∷ []
 
--- n Ifs in one another from position i on, with their EndIfs, and some ops behind them
-abbrev pub ifsAt : ℕ → ℕ → List ℕ → List ℕ
-ifsAt i zero behind = behind
-ifsAt i (suc n) behind = op K.If (i + 2 * n + 1) ∷ ifsAt (suc i) n (op K.EndIf 0 ∷ behind)
+-- n Ifs in one another from position i on, with some ops in the inmost, their EndIfs, and some ops behind them
+abbrev pub ifsAt : ℕ → ℕ → List ℕ → List ℕ → List ℕ
+ifsAt i zero inmost behind = inmost ++ behind
+ifsAt i (suc n) inmost behind = op K.If (i + 2 * n + length inmost + 1) ∷ ifsAt (suc i) n inmost (op K.EndIf 0 ∷ behind)
 
 -- n Loops in one another from position i on, then for each, from the inmost, a Break with its target and its EndLoop
 abbrev pub loopsAt : ℕ → ℕ → List ℕ → List ℕ
@@ -217,7 +223,7 @@ loopsAt i (suc n) behind = op K.Loop (i + 3 * suc n) ∷ loopsAt (suc i) n (op K
 
 -- so many of them, alone as a module
 abbrev pub ifs : ℕ → List ℕ
-ifs n = alone (caller (ifsAt 0 n []))
+ifs n = alone (caller (ifsAt 0 n [] []))
 
 abbrev pub loops : ℕ → List ℕ
 loops n = alone (caller (loopsAt 0 n []))
@@ -233,5 +239,78 @@ levelled =
     ∷ record { name = "256 Loops in one another: cycles 512"; claim = cyclesOutcome (loops 256) 0 ≡ cycles 512 false }
     ∷ record { name = "257 Loops in one another: refusal 7 of the cycle walk"; claim = cyclesOutcome (loops 257) 0 ≡ refused 7 0 0 }
     ∷ record { name = "257 Loops in one another: refusal 7 of the stack walk"; claim = stackOutcome (loops 257) 0 [] ≡ refused 7 0 0 }
-    ∷ record { name = "257 Ifs behind a Return: 2 cycles"; claim = cyclesOutcome (alone (caller (op K.Return 0 ∷ ifsAt 1 257 []))) 0 ≡ cycles 2 true }
+    ∷ record { name = "257 Ifs behind a Return: 2 cycles"; claim = cyclesOutcome (alone (caller (op K.Return 0 ∷ ifsAt 1 257 [] []))) 0 ≡ cycles 2 true }
+    ∷ []
+
+-- "`Loop 3, Break 0, EndLoop`", whose Break names no Loop
+abbrev pub strayLoop : List ℕ
+strayLoop = op K.Loop 3 ∷ op K.Break 0 ∷ op K.EndLoop 0 ∷ []
+
+-- 2.4: "the operand of Break and BreakIf must be the target of the innermost Loop around it"; else "15 stray break, place the first such op of the range,
+-- tested after 6". docs/DECISIONS.md has the readings by number.
+abbrev pub strayed : List Case
+strayed =
+    record {
+      name = "a Break that names the outer Loop: 15 at 2";
+      claim = sheet (caller (op K.Loop 6 ∷ op K.Loop 4 ∷ op K.Break 6 ∷ op K.EndLoop 0 ∷ op K.Break 6 ∷ op K.EndLoop 0 ∷ [])) ≡ refused 15 0 2;
+    }
+    ∷ record {
+      name = "with the inner Loop's target: 4 cycles";
+      claim = sheet (caller (op K.Loop 6 ∷ op K.Loop 4 ∷ op K.Break 4 ∷ op K.EndLoop 0 ∷ op K.Break 6 ∷ op K.EndLoop 0 ∷ [])) ≡ one 4 0 0;
+    }
+    ∷ record {
+      name = "reading 41: an arm is inside the Loop around its If: no 15, and no count";
+      claim = sheet (caller (op K.Loop 5 ∷ op K.If 3 ∷ op K.Break 5 ∷ op K.EndIf 0 ∷ op K.EndLoop 0 ∷ [])) ≡ refused 9 0 0;
+    }
+    ∷ record {
+      name = "reading 41: so the arm's Break may not name the position behind the If";
+      claim = sheet (caller (op K.Loop 5 ∷ op K.If 3 ∷ op K.Break 4 ∷ op K.EndIf 0 ∷ op K.EndLoop 0 ∷ [])) ≡ refused 15 0 2;
+    }
+    ∷ record {
+      name = "reading 42: a dead Break: 15 at 2";
+      claim = cyclesOutcome (alone (caller (op K.Loop 4 ∷ op K.Return 0 ∷ op K.Break 0 ∷ op K.EndLoop 0 ∷ []))) 0 ≡ refused 15 0 2;
+    }
+    ∷ record {
+      name = "reading 42: what lies outside the range is not looked at: Break 7, Stream, Yield, Reset";
+      claim = sheet (stream (op K.Break 7 ∷ op K.Stream 0 ∷ op K.Yield 0 ∷ op K.Reset 0 ∷ [])) ≡ one 1 0 0;
+    }
+    ∷ record {
+      name = "reading 43: 6 comes first wherever its ops stand";
+      claim = sheet (caller (strayLoop ++ op K.If 5 ∷ op K.Yield 0 ∷ [])) ≡ refused 6 0 0;
+    }
+    ∷ record {
+      name = "reading 43: 8 comes behind it: Yield with the greatest extra, Loop 4, BreakIf 0, EndLoop";
+      claim = sheet (func 0 [] (op K.Yield 0 ∷ op K.Loop 4 ∷ op K.BreakIf 0 ∷ op K.EndLoop 0 ∷ []) (M.openText ∷ [])) ≡ refused 15 0 2;
+    }
+    ∷ record {
+      name = "reading 43: 7 comes behind it: 257 Ifs around a stray break";
+      claim = cyclesOutcome (alone (caller (ifsAt 0 257 (op K.Loop 260 ∷ op K.Break 0 ∷ op K.EndLoop 0 ∷ []) []))) 0 ≡ refused 15 0 258;
+    }
+    ∷ record {
+      name = "reading 44: a chunk after the other in call order: Loop 3, Break 0, EndLoop, Call 1 and Loop 3, Break 0, EndLoop";
+      claim = sheetOutcome (moduleWords (caller (strayLoop ++ op K.Call 1 ∷ []) ∷ caller strayLoop ∷ [])) (2 * lineWidth) ≡ refused 15 1 1;
+    }
+    ∷ record {
+      name = "reading 44: the 9 of an earlier chunk comes first";
+      claim = sheetOutcome (moduleWords (caller (strayLoop ++ op K.Call 1 ∷ []) ∷ caller (op K.Loop 2 ∷ op K.EndLoop 0 ∷ []) ∷ [])) (2 * lineWidth)
+          ≡ refused 9 1 0;
+    }
+    ∷ record { name = "reading 45: L with BreakIf 0 is read"; claim = readOutcome (alone (headerTo 0 (pos 0) (pos 3) (pos 1))) ≡ answer 1 }
+    ∷ record { name = "reading 45: it has its count"; claim = countOutcome (alone (headerTo 0 (pos 0) (pos 3) (pos 1))) 0 4 ≡ answer 3 }
+    ∷ record { name = "reading 45: it has its order"; claim = orderOutcome (alone (headerTo 0 (pos 0) (pos 3) (pos 1))) 1 ≡ answer (0 ∷ []) }
+    ∷ record { name = "reading 45: its cycle walk is 15"; claim = cyclesOutcome (alone (headerTo 0 (pos 0) (pos 3) (pos 1))) 0 ≡ refused 15 0 8 }
+    ∷ record { name = "reading 45: its stack walk is 15"; claim = stackOutcome (alone (headerTo 0 (pos 0) (pos 3) (pos 1))) 0 [] ≡ refused 15 0 8 }
+    ∷ record {
+      name = "reading 46: the operand of EndLoop is not read";
+      claim = sheet (caller (op K.Loop 3 ∷ op K.Break 3 ∷ op K.EndLoop 65535 ∷ [])) ≡ one 2 0 0;
+    }
+    ∷ record {
+      name = "reading 46: the reader leaves the operands of all three free";
+      claim = readOutcome (alone (caller (op K.Break 65535 ∷ op K.BreakIf 65535 ∷ op K.EndLoop 65535 ∷ []))) ≡ answer 1;
+    }
+    ∷ record {
+      name = "the loop of reading 7 with Break 0: 15 at 2";
+      claim = cyclesOutcome (alone (caller (op K.Loop 4 ∷ op K.Return 0 ∷ op K.Break 0 ∷ op K.EndLoop 0 ∷ op K.Yield 0 ∷ []))) 0 ≡ refused 15 0 2;
+    }
+    ∷ record { name = "the body that never gets to EndLoop, with Break 0: 15 at 1"; claim = sheet (caller strayLoop) ≡ refused 15 0 1 }
     ∷ []

@@ -1,12 +1,16 @@
--- Demand 3 as types: what a sheet's lines say of every path. proofs/Demand, proofs/WholeBound and proofs/StackBound have the proofs.
+-- Demand 3 as types: what a sheet's lines say of every path; and what request 2.4's place is, by positions. proofs/Demand, proofs/WholeBound,
+-- proofs/StackBound and proofs/Strays have the proofs.
 use mathlib.Core.Path.{_≡_}
 use mathlib.Core.Bool.{true, false}
 use mathlib.Core.List.{List}
+use mathlib.Core.Logic.{_⊎_}
 use Prim.Native.Nat.{ℕ, _<_, _≤_, min}
 use lib.ListN.{length, getD}
-use Rattle.rules.specs.Outcome.{answer}
+use Rattle.rules.specs.Outcome.{ok, answer, found, nothing}
+use Rattle.rules.specs.Ops.{fieldA, opAt}
 use Rattle.rules.specs.Form.{Chunk}
 use Rattle.rules.specs.Limits.{cycleCap}
+use Rattle.rules.specs.Rows.{loopTo, breaks, breaksIf, shapeOf, Row, Range, rowOf, strayBreak}
 use Rattle.rules.specs.Sheet.{Line, noLine, Sheet, readModule, sheetOutcome}
 use Rattle.rules.specs.Paths.{Way, begin, path, pathCycles, pathBytes, KeepsCounts, KeepsDepths}
 
@@ -41,3 +45,27 @@ StackBounded =
     (words : List ℕ) (room : ℕ) (cs : List Chunk) (s : Sheet) → Accepted words room cs s → (c : ℕ) → c < length cs
     → (ways : List Way) → KeepsDepths cs true (begin cs c) ways
     → pathBytes cs c (path cs true (begin cs c) ways) ≤ lineAt s c .bytes
+
+-- 2.4: "the operand of Break and BreakIf must be the target of the innermost Loop around it", said of positions and not of a tree: the op at i of the
+-- range g breaks this. A Loop is around the positions behind it and before its target.
+pub record IsStray (ops : List ℕ) (g : Range) (i : ℕ) : Type 0 where
+  pub within : (g .from ≤ i) × (i < g .to)
+  pub is-break : (shapeOf (opAt ops i) ≡ breaks) ⊎ (shapeOf (opAt ops i) ≡ breaksIf)
+  pub at : ℕ
+  pub target : ℕ
+  pub is-loop : shapeOf (opAt ops at) ≡ loopTo target
+  pub around : (g .from ≤ at) × (at < i) × (i < target)
+  pub innermost : (q t : ℕ) → at < q → q < i → shapeOf (opAt ops q) ≡ loopTo t → i < t → ⊥
+  pub other : fieldA (opAt ops i) ≡ target → ⊥
+
+-- "place the first such op of the range"
+abbrev pub StrayFirst : Type 0
+StrayFirst =
+    (ops : List ℕ) (g : Range) (r : Row) (i : ℕ) → g .from ≤ g .to → rowOf ops g ≡ ok r → strayBreak (opAt ops) 0 r ≡ found i
+    → IsStray ops g i × ((j : ℕ) → j < i → IsStray ops g j → ⊥)
+
+-- and where a tree has none, the range has none
+abbrev pub StrayNone : Type 0
+StrayNone =
+    (ops : List ℕ) (g : Range) (r : Row) → g .from ≤ g .to → rowOf ops g ≡ ok r → strayBreak (opAt ops) 0 r ≡ nothing
+    → (j : ℕ) → IsStray ops g j → ⊥

@@ -128,6 +128,6 @@ pub record Cycles : Type 0 where
 abbrev pub cyclesOf : Cost → Cycles
 cyclesOf k = record { cycles = k .cycles; ends = k .ends }
 
--- the cycle walk of a chunk: 3, 4, 5, 6, then 7, 8, 9 as the walk meets them
+-- the cycle walk of a chunk: 3, 4, 5, 6, 15, then 7, 8, 9 as the walk meets them
 abbrev pub chunkCycles : Chunk → Result Cycles
 chunkCycles c = andThen (chunkRow c) (λ r. andThen (cappedCost cycleCap c [] r) (λ k. ok (cyclesOf k)))

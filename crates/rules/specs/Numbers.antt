@@ -43,3 +43,6 @@ shortTray = 13
 -- document 02's
 abbrev pub unfitPart : ℕ
 unfitPart = 14
+
+abbrev pub strayBreak : ℕ
+strayBreak = 15

@@ -26,7 +26,7 @@ pub data Shape : Type 0 where
   calls : ℕ → Shape
 
 -- 50 Trap, 31 Return, 21 If, 22 Else, 23 EndIf, 24 Loop, 25 EndLoop, 26 Break, 27 BreakIf, 30 Call; any other op is plain. "The
--- operands of EndLoop, Break and BreakIf are not read."
+-- operands of EndLoop, Break and BreakIf are not read": of the last two since 2.4 only by `strayBreak`.
 abbrev pub shapeOf : ℕ → Shape
 shapeOf w =
     cond (eqb (kind w) K.If) (ifTo (fieldA w))
@@ -221,16 +221,43 @@ orCrossed crossed = no N.crossed 0
 abbrev pub rowOf : List ℕ → Range → Result Row
 rowOf ops g = orCrossed (parse (g .to - g .from) (opAt ops) false (g .from) (g .to))
 
+-- an op that keeps the rule of request 2.4 is passed over, another is found
+abbrev pub unlessStray : Bool → ℕ → (ℕ → Found) → Found
+unlessStray true i rest = rest i
+unlessStray false i rest = found i
+
+-- what the first of two searches finds, or else the second
+abbrev pub orElse : Found → (ℕ → Found) → Found
+orElse (found i) rest = found i
+orElse nothing rest = rest 0
+
+-- 2.4: "the operand of Break and BreakIf must be the target of the innermost Loop around it": the first op of a tree that breaks this, by position and
+-- dead ops too. t is the target of the innermost Loop around the tree; outside every Loop no row has a break.
+unfoldable pub strayBreak : (ℕ → ℕ) → ℕ → Row → Found
+strayBreak op t end = nothing
+strayBreak op t (step i r) = strayBreak op t r
+strayBreak op t (stop i r) = strayBreak op t r
+strayBreak op t (leave i r) = unlessStray (eqb (fieldA (op i)) t) i (λ u. strayBreak op t r)
+strayBreak op t (leaveIf i r) = unlessStray (eqb (fieldA (op i)) t) i (λ u. strayBreak op t r)
+strayBreak op t (ifThen i e p r) = orElse (strayBreak op t p) (λ u. strayBreak op t r)
+strayBreak op t (ifElse i e f p q r) = orElse (strayBreak op t p) (λ u. orElse (strayBreak op t q) (λ v. strayBreak op t r))
+strayBreak op t (loop i e b r) = orElse (strayBreak op (suc e) b) (λ u. strayBreak op t r)
+
+-- 2.4: "15 stray break, place the first such op of the range"
+abbrev pub ownTargets : List ℕ → Row → Result Row
+ownTargets ops r = andThen (unlessFound (strayBreak (opAt ops) 0 r) N.strayBreak) (λ u. ok r)
+
 -- what may be walked: a range, and its tree
 pub record Walkable : Type 0 where
   pub range : Range
   pub tree : Row
 
--- The tests before a walk, in their order: 3, 4, 5, 6; of a chunk's type and its ops.
+-- The tests before a walk, in their order: 3, 4, 5, 6, and 15, "tested after 6"; of a chunk's type and its ops.
 abbrev pub walkable : ℕ → List ℕ → Result Walkable
 walkable type ops =
     andThen (rangeBy type ops)
-    (λ g. andThen (forwardTargets ops) (λ u. andThen (rowOf ops g) (λ r. ok (record { range = g; tree = r }))))
+    (λ g. andThen (forwardTargets ops)
+    (λ u. andThen (rowOf ops g) (λ r. andThen (ownTargets ops r) (λ own. ok (record { range = g; tree = own })))))
 
 abbrev pub chunkRow : Chunk → Result Row
 chunkRow c = andThen (walkable (c .type) (c .ops)) (λ w. ok (w .tree))

@@ -33,11 +33,11 @@ chunkOutcome ws c = lookedUp ws c (λ cs. chunkAt cs c)
 abbrev pub countOutcome : List ℕ → ℕ → ℕ → Outcome ℕ
 countOutcome ws c p = followedBy (chunkOutcome ws c) (λ k. inChunk c (countOf k p))
 
--- the cycle walk of one chunk: 1, 2, 12, 3, 4, 5, 6, and 7 to 9 as the walk meets them
+-- the cycle walk of one chunk: 1, 2, 12, 3, 4, 5, 6, 15, and 7 to 9 as the walk meets them
 abbrev pub cyclesOutcome : List ℕ → ℕ → Outcome Cycles
 cyclesOutcome ws c = followedBy (chunkOutcome ws c) (λ k. inChunk c (chunkCycles k))
 
--- the stack walk of one chunk over a lent callee list: 1, 2, 12, 3, 4, 5, 6, then 7 and 9, then 11
+-- the stack walk of one chunk over a lent callee list: 1, 2, 12, 3, 4, 5, 6, 15, then 7 and 9, then 11
 abbrev pub stackOutcome : List ℕ → ℕ → List ℕ → Outcome Stack
 stackOutcome ws c callees = followedBy (chunkOutcome ws c) (λ k. inChunk c (chunkStack k callees))
 
@@ -71,7 +71,7 @@ pub record Line : Type 0 where
 abbrev pub lineOf : Cost → Cost → Stack → Line
 lineOf c w s = record { cycles = c .cycles; peak = s .peak; bytes = s .bytes; whole = w .cycles }
 
--- one chunk of a module, over the stack bytes and the whole figures of its callees: 3, 4, 5, 6, the cycle walk's 7 to 9, the stack walk's, 11. The walk
+-- one chunk of a module, over the stack bytes and the whole figures of its callees: 3, 4, 5, 6, 15, the cycle walk's 7 to 9, the stack walk's, 11. The walk
 -- with callees charged refuses where the cycle walk does and nowhere else, and nothing else of the sheet changes (proofs/RestStays).
 abbrev pub chunkLine : Chunk → List ℕ → List ℕ → Result Line
 chunkLine c callees wholes =

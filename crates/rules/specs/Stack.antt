@@ -135,6 +135,6 @@ abbrev pub rowStack : Chunk → List ℕ → Row → Result Stack
 rowStack c callees r =
     andThen (rowHeight (riseOf c callees) (moveOf c) (countOf c) r deepest (pos 0) 0 false) (λ h. stackOf (c .locals) h)
 
--- the stack walk of a chunk: 3, 4, 5, 6, then 7 and 9 as the walk meets them, then 11
+-- the stack walk of a chunk: 3, 4, 5, 6, 15, then 7 and 9 as the walk meets them, then 11
 abbrev pub chunkStack : Chunk → List ℕ → Result Stack
 chunkStack c callees = andThen (chunkRow c) (λ r. rowStack c callees r)

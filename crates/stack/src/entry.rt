@@ -33,7 +33,7 @@ pub enum StackAnswer {
     },
 }
 
-// The stack walk of the chunk with these parts, over the stack bytes of the callees: 3, 4, 5, 6, then 7 and 9 as the walk meets them, then 11.
+// The stack walk of the chunk with these parts, over the stack bytes of the callees: 3, 4, 5, 6, 15, then 7 and 9 as the walk meets them, then 11.
 fn chunk_stack(words: &[u32], p: Parts, callees: &[u32]) -> StackResult
     requires { ⌜ PartsFit (now words) p ⌝ }
     ensures { λ r. ⌜ ((k : Chunk) → PartsOf (now (words .entry)) p k → stackResult r ≡ chunkStack k (now (callees .entry))) ⌝ }
