@@ -16,18 +16,18 @@ use Rattle.rules.proofs.Shapes.{shape-tells, by-plain, by-ending}
 use Rattle.rules.proofs.RowTree.{row-some}
 
 -- neither a Loop nor a break
-abbrev Quiet : Shape → Type 0
-Quiet plain = Unit {0}
-Quiet trap = Unit {0}
-Quiet returns = Unit {0}
-Quiet (ifTo t) = Unit {0}
-Quiet (elseTo e) = Unit {0}
-Quiet endIf = Unit {0}
-Quiet (loopTo t) = ⊥
-Quiet endLoop = Unit {0}
-Quiet breaks = ⊥
-Quiet breaksIf = ⊥
-Quiet (calls k) = Unit {0}
+abbrev Passing : Shape → Type 0
+Passing plain = Unit {0}
+Passing trap = Unit {0}
+Passing returns = Unit {0}
+Passing (ifTo t) = Unit {0}
+Passing (elseTo e) = Unit {0}
+Passing endIf = Unit {0}
+Passing (loopTo t) = ⊥
+Passing endLoop = Unit {0}
+Passing breaks = ⊥
+Passing breaksIf = ⊥
+Passing (calls k) = Unit {0}
 
 -- the choice between a position before b and one from b on
 before-or : {A : Type 0} (k b : ℕ) → (k < b → A) → (b ≤ k → A) → A
@@ -107,8 +107,8 @@ module _ (ops : List ℕ) (g : Range) where
         says-then i (suc i) to nothing f (omega arith) (a .forward) (λ k b u s. let same : k ≡ i = omega arith in n (rw same at (s .is-break))) (a .says);
   }
 
-  one-quiet : (i : ℕ) → Quiet (shapeOf (opAt ops i)) → Stretch i (suc i) nothing
-  one-quiet i q = in-front i (suc i) (⊎-elim (λ e. rw e at q) (λ e. rw e at q)) (λ t e. absurd (rw e at q)) (none (suc i))
+  one-passing : (i : ℕ) → Passing (shapeOf (opAt ops i)) → Stretch i (suc i) nothing
+  one-passing i q = in-front i (suc i) (⊎-elim (λ e. rw e at q) (λ e. rw e at q)) (λ t e. absurd (rw e at q)) (none (suc i))
 
   break-or-loop : (i t : ℕ) → shapeOf (opAt ops i) ≡ loopTo t → IsBreak i → ⊥
   break-or-loop i t e =
@@ -166,10 +166,10 @@ module _ (ops : List ℕ) (g : Range) where
   unfolding strayBreak
   searched l t i to end w a h k = rw w (none to)
   searched l t i to (step j r) w a h k =
-      let first = one-quiet i (by-plain Quiet tt (λ k. tt) (shapeOf (opAt ops i)) (w .2)) in
+      let first = one-passing i (by-plain Passing tt (λ k. tt) (shapeOf (opAt ops i)) (w .2)) in
       joined first (searched l t (suc i) to r (w .3) (further first a (omega arith)) (omega arith) k)
   searched l t i to (stop j r) w a h k =
-      let first = one-quiet i (by-ending Quiet tt tt (shapeOf (opAt ops i)) (w .2)) in
+      let first = one-passing i (by-ending Passing tt tt (shapeOf (opAt ops i)) (w .2)) in
       joined first (searched l t (suc i) to r (w .3) (further first a (omega arith)) (omega arith) k)
   searched l t i to (leave j r) w a h k =
       let is : IsBreak i = inl (w .2) in
@@ -182,25 +182,25 @@ module _ (ops : List ℕ) (g : Range) where
       let past : Inside l t (suc i) to = moved (suc i) a (omega arith) (break-closed t i to (w .1) h k is o) (omega arith) in
       rw (w .0) (broken t i to (w .1) h k is o (searched l t (suc i) to r (w .4) past (omega arith) k))
   searched l t i to (ifThen j f p r) w a h k =
-      let first = one-quiet i (rw (w .1) tt) in
+      let first = one-passing i (rw (w .1) tt) in
       let arm = searched l t (suc i) f p (w .5) (further first a (omega arith)) (omega arith) (omega arith) in
-      let last = one-quiet f (rw (w .4) tt) in
+      let last = one-passing f (rw (w .4) tt) in
       let rest = searched l t (suc f) to r (w .6) (further (joined first (joined arm last)) a (omega arith)) (omega arith) k in
       joined first (joined arm (joined last rest))
   searched l t i to (ifElse j e f p q r) w a h k =
-      let first = one-quiet i (rw (w .1) tt) in
+      let first = one-passing i (rw (w .1) tt) in
       let arm = searched l t (suc i) e p (w .7) (further first a (omega arith)) (omega arith) (omega arith) in
-      let middle = one-quiet e (rw (w .5) tt) in
+      let middle = one-passing e (rw (w .5) tt) in
       let half = joined first (joined arm middle) in
       let other = searched l t (suc e) f q (w .8) (further half a (omega arith)) (omega arith) (omega arith) in
-      let last = one-quiet f (rw (w .6) tt) in
+      let last = one-passing f (rw (w .6) tt) in
       let rest = searched l t (suc f) to r (w .9) (further (joined half (joined other last)) a (omega arith)) (omega arith) k in
       joined first (joined arm (joined middle (joined other (joined last rest))))
   searched l t i to (loop j e b r) w a h k =
       let inner : LoopAround (suc e) (suc i) e =
       record { at = i; is-loop = w .1; before = omega arith; behind = omega arith; closed = λ q u v l s. absurd (omega arith) } in
       let body = searched true (suc e) (suc i) e b (w .5) (λ _. inner) (omega arith) (omega arith) in
-      let last = one-quiet e (rw (w .4) tt) in
+      let last = one-passing e (rw (w .4) tt) in
       let whole = looped i e (w .1) (omega arith) (joined body last) in
       let rest = searched l t (suc e) to r (w .6) (further whole a (omega arith)) (omega arith) k in
       looped i e (w .1) (omega arith) (joined body (joined last rest))

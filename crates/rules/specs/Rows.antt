@@ -1,4 +1,4 @@
--- "Blocks and paths": the shape of an op, the range of a chunk, forward targets, and rows as trees.
+-- "Blocks and paths": the shape of an op, the range of a chunk, forward targets, and rows as trees; and the stray breaks of request 2.4.
 use mathlib.Core.Path.{_≡_}
 use mathlib.Core.Bool.{Bool, true, false, cond, _&&_, _||_}
 use mathlib.Core.List.{List, [], _∷_}
