@@ -22,9 +22,11 @@
 #define PM_WORDS 16384
 #define PM_CHUNKS 256
 
-/* The values of a chunk in a sheet's tray: cycles, peak in slots, stack bytes, and the cycles with its callees. A tray of the sheet needs PM_ROW times as much
- * room as the module has chunks, PM_TRAY is enough for any; a tray of the call order needs one number a chunk. */
-#define PM_ROW 4
+/* The values of a chunk in a sheet's tray: cycles, 1 if the cycles are cut and else 0, peak in slots, stack bytes, and the cycles with its callees. A tray of
+ * the sheet needs PM_ROW times as much room as the module has chunks, PM_TRAY is enough for any; a tray of the call order needs one number a chunk.
+ *
+ * Cycles stop at 4,294,967,295. They are cut if the figure without that cap is greater. The cycles with the callees stop there too and have no mark. */
+#define PM_ROW 5
 #define PM_TRAY (PM_ROW * PM_CHUNKS)
 
 /* The values of a stack walk: peak in slots, delta, stack bytes. */
@@ -35,8 +37,9 @@
 #define PM_LENT_CONSTANT 3
 #define PM_LENT_OP 3
 
-/* Set in the answer of pm_cycles where the row ends; the cycles are the 32 bits below. */
+/* Set in the answer of pm_cycles where the row ends, and where the cycles are cut; the cycles are the 32 bits below. */
 #define PM_ENDS ((uint64_t)1 << 32)
+#define PM_CUT ((uint64_t)1 << 33)
 
 /* Whether a packed value is a refusal. */
 static inline int pm_is_refusal(uint64_t packed) { return packed >> 56 != 0; }
@@ -60,7 +63,7 @@ uint64_t pm_read(const uint32_t *words, size_t length);
 /* The count of the loop at position p of chunk c. */
 uint64_t pm_count(const uint32_t *words, size_t length, uint32_t c, uint32_t p);
 
-/* The cycle walk of chunk c: its cycles, and PM_ENDS if its row ends. */
+/* The cycle walk of chunk c: its cycles, with PM_ENDS if its row ends and PM_CUT if the cycles are cut. */
 uint64_t pm_cycles(const uint32_t *words, size_t length, uint32_t c);
 
 /* The stack walk of chunk c over the callees' stack bytes by chunk index, 0 past the list's end: peak, delta (0 where the row ends) and bytes into out;

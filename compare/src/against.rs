@@ -5,11 +5,13 @@ mod apart;
 #[allow(dead_code)]
 #[path = "standin/bytecode.rs"]
 mod bytecode;
+mod caps;
 mod case;
 mod classes;
 mod counts;
 mod document;
 mod every;
+mod exact;
 mod form;
 #[allow(dead_code)]
 mod kinds;
@@ -237,6 +239,8 @@ fn run(seed: u64, modules: u64) -> bool {
     limits::all(|case| counts.compare(&case, &[Each::Module, Each::Short, Each::Chunk]));
     refusals(&mut counts, &mut random);
     told("worked cases and limits", &counts);
+    caps::all(|case| counts.compare(&case, &[Each::Module, Each::Short, Each::Chunk]));
+    told("figures about the cap", &counts);
     lists(&mut counts);
     told("short op lists", &counts);
     every::rows(7, |case| counts.compare(&case, &[Each::Chunk]));

@@ -39,7 +39,7 @@ pub fn figures(op: &Op) -> (i64, i64, i64) {
 }
 
 /// "The range is all ops, or in a Stream chunk those after the first Stream and before the first Reset."
-fn range(chunk: &Chunk) -> Result<(usize, usize), Refusal> {
+pub fn range(chunk: &Chunk) -> Result<(usize, usize), Refusal> {
     let first = |kind| chunk.ops.iter().position(|op| op.kind == kind);
     if chunk.mode != STREAMING {
         return Ok((0, chunk.ops.len()));

@@ -102,7 +102,24 @@ pub fn chunk_l(constants: &[i64]) -> Chunk {
     chunk(FUNC, 2, constants, ops.chain([op(RETURN, 0, 0)]).collect())
 }
 
-/// The same with the end from an array: its literal, a copy of it, and its length.
+/// Chunk L with an end and some ops behind its BreakIf, targets moved.
+pub fn longer_l(end: i64, more: Vec<Op>) -> Chunk {
+    let mut held = chunk_l(&[0, end, 1]);
+    held.ops[4].a += more.len() as u16;
+    held.ops[8].a += more.len() as u16;
+    held.ops.splice(9..9, more);
+    held
+}
+
+/// The chunk with one extra, at op `i`.
+pub fn with_extra(held: &Chunk, i: usize, extra: u32) -> Chunk {
+    let mut held = held.clone();
+    held.extras = vec![0; i];
+    held.extras.push(extra);
+    held
+}
+
+/// Chunk L with the end from an array: its literal, a copy of it, and its length.
 pub fn chunk_l_array(length: usize) -> Chunk {
     let mut held = chunk_l(&[0, 3, 1]);
     let array = [

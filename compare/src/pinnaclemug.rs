@@ -28,8 +28,8 @@ unsafe extern "C" {
     ) -> u64;
 }
 
-/// The values of a chunk in a sheet's tray: cycles, peak, bytes and whole.
-pub const ROW: usize = 4;
+/// The values of a chunk in a sheet's tray: cycles, their mark, peak, bytes and whole.
+pub const ROW: usize = 5;
 
 /// The values that a stack walk leaves: peak, delta and bytes.
 pub const HEIGHT: usize = 3;
@@ -51,11 +51,16 @@ pub struct Refusal {
     pub place: u32,
 }
 
-/// The cycles of a walk, and whether its row ends.
+/// The bits of a cycle walk's answer above its cycles: that the row ends, and that the cycles are cut.
+const ENDS: u64 = 1 << 32;
+const CUT: u64 = 1 << 33;
+
+/// The cycles of a walk, whether its row ends, and whether the cycles are cut.
 #[derive(Clone, Copy, Debug, PartialEq)]
 pub struct Cycles {
     pub cycles: u32,
     pub ends: bool,
+    pub cut: bool,
 }
 
 /// A module's parts as the writer is lent them. Chunk after chunk takes its own from the fronts of the last three lists.
@@ -103,7 +108,8 @@ pub fn cycles(words: &[u32], c: u32) -> Result<Cycles, Refusal> {
     let packed = unsafe { pm_cycles(words.as_ptr(), words.len(), c) };
     unpacked(packed).map(|answer| Cycles {
         cycles: answer as u32,
-        ends: answer >> 32 != 0,
+        ends: answer & ENDS != 0,
+        cut: answer & CUT != 0,
     })
 }
 

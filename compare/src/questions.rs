@@ -1,8 +1,9 @@
 //! The stored questions: document 01's cases and what DECISIONS reads into it, every op kind, every refusal at different places, the limits, near misses of a
-//! count, callees, random modules from a fixed seed, and stray breaks.
+//! count, callees, random modules from a fixed seed, stray breaks, and figures about the cap.
 mod calls;
 mod counted;
 mod library;
+mod marks;
 mod readings;
 mod rows;
 mod stacks;
@@ -33,8 +34,10 @@ pub struct Question {
     pub room: usize,
     pub callees: Vec<u32>,
     pub words: Vec<u32>,
-    /// what document 01 says, or a reading of it
+    /// what document 01 says, or a reading of it, marks left out
     pub said: Option<Outcome>,
+    /// the marks of a walk or of a sheet's chunks, by request 2.5
+    pub marks: Option<Vec<i64>>,
     /// the whole figures of a sheet, by hand
     pub wholes: Option<Vec<i64>>,
 }
@@ -50,6 +53,7 @@ impl Question {
             callees: Vec::new(),
             words: words.to_vec(),
             said: None,
+            marks: None,
             wholes: None,
         }
     }
@@ -62,9 +66,15 @@ impl Question {
             && self.words == other.words
     }
 
-    /// Document 01's answer, or that of a reading of it.
+    /// Document 01's answer, or that of a reading of it, marks left out.
     fn is(&mut self, values: &[i64]) {
         self.said = Some(Outcome::Answer(values.to_vec()));
+    }
+
+    /// The same, with request 2.5's mark of a walk or the marks of a sheet's chunks.
+    fn marked(&mut self, values: &[i64], marks: &[i64]) {
+        self.is(values);
+        self.marks = Some(marks.to_vec());
     }
 
     /// The whole figures of a sheet's chunks.
@@ -188,5 +198,6 @@ pub fn all() -> Vec<Question> {
     whole::longest(&mut list);
     whole::random_modules(&mut list, 18);
     strays::all(&mut list);
+    marks::all(&mut list);
     list.0
 }

@@ -51,6 +51,7 @@ fn walk(name: &'static str, ops: Vec<Op>, cycles: usize, ends: bool) -> Case {
     let answer = Cycles {
         cycles: cycles as u32,
         ends,
+        cut: false,
     };
     Case {
         name,
@@ -249,8 +250,11 @@ fn printed(words: &[u32]) -> String {
     let mut text = "chunk cycles peak bytes whole\n".to_string();
     for &c in &order[..chunks] {
         let at = ROW * c as usize;
-        let line: Vec<String> = tray[at..at + ROW].iter().map(u32::to_string).collect();
-        text += &format!("{c} {}\n", line.join(" "));
+        let &[cycles, mark, peak, bytes, whole] = &tray[at..at + ROW] else {
+            panic!("a row has so many numbers")
+        };
+        let plus = if mark == 1 { "+" } else { "" };
+        text += &format!("{c} {cycles}{plus} {peak} {bytes} {whole}\n");
     }
     text
 }

@@ -6,12 +6,12 @@ use crate::form;
 use crate::pinnaclemug::{self, ROW};
 use crate::questions::{self, Asked, Question};
 use crate::refusals::*;
-use crate::table::{self, COMPARISONS, ENDS, Expected, Outcome};
+use crate::table::{self, COMPARISONS, ENDS, Expected, MARK, Outcome, WHOLE};
 use Expected::{Apart, Same};
 use std::collections::BTreeMap;
 
 /// What stands in a tray before the call.
-const MARK: i64 = 9;
+const BEFORE: i64 = 9;
 
 fn number(asked: Asked) -> u32 {
     match asked {
@@ -69,8 +69,10 @@ fn expected(question: &Question) -> Expected {
         return Apart("far position", Outcome::Refused(NO_COUNT, c, p));
     }
     let case = Case::new(question.words.clone(), question.callees.clone());
-    if asked == Asked::Sheet {
-        return table::original_lines(&case);
+    match asked {
+        Asked::Sheet => return table::original_lines(&case),
+        Asked::Cycles => return table::original_walk(&case, c),
+        _ => {}
     }
     let held = COMPARISONS.iter().find(|held| held.name == name(asked));
     (held.expect("a comparison").original)(&case, c, p)
@@ -89,7 +91,7 @@ fn ours(question: &Question) -> Option<Outcome> {
             Err(refusal) => table::unpacked(refusal),
         },
         Asked::Count => table::count(words, c, p),
-        Asked::Cycles => table::cycles(words, c),
+        Asked::Cycles => table::walk(words, c),
         Asked::Stack => table::stack(words, c, &question.callees),
         Asked::Order => table::order(words, question.room),
         Asked::Sheet => table::sheet(words, question.room),
@@ -106,6 +108,25 @@ fn packed(outcome: &Outcome) -> Outcome {
     }
 }
 
+/// An outcome without its marks, and these: the last number of a cycle walk, the second of each line of a sheet.
+fn marks_apart(asked: Asked, outcome: &Outcome) -> (Outcome, Vec<i64>) {
+    let Outcome::Answer(values) = outcome else {
+        return (outcome.clone(), Vec::new());
+    };
+    let is_mark = |i: usize| match asked {
+        Asked::Cycles => i == 2,
+        Asked::Sheet => i % ROW == MARK,
+        _ => false,
+    };
+    let picked = |marks: bool| {
+        let each = values.iter().enumerate();
+        each.filter(move |(i, _)| is_mark(*i) == marks)
+            .map(|(_, &value)| value)
+            .collect()
+    };
+    (Outcome::Answer(picked(false)), picked(true))
+}
+
 /// The answer, and where it is document 01's why.
 fn answer(question: &Question) -> (Outcome, Option<&'static str>) {
     let names = question.names.join(" / ");
@@ -113,11 +134,15 @@ fn answer(question: &Question) -> (Outcome, Option<&'static str>) {
         Same(outcome) => (outcome, None),
         Apart(reason, outcome) => (outcome, Some(reason)),
     };
+    let (found, marks) = marks_apart(question.asked, &outcome);
     if let Some(said) = &question.said {
-        assert_eq!(&outcome, said, "{names}: document 01 says something else");
+        assert_eq!(&found, said, "{names}: document 01 says something else");
+    }
+    if let Some(said) = &question.marks {
+        assert_eq!(&marks, said, "{names}: request 2.5 says something else");
     }
     if let (Some(figures), Outcome::Answer(lines)) = (&question.wholes, &outcome) {
-        let found: Vec<i64> = table::wholes(lines).collect();
+        let found: Vec<i64> = table::column(lines, WHOLE).collect();
         assert_eq!(&found, figures, "{names}: by hand it is something else");
     }
     if let Some(ours) = ours(question) {
@@ -146,7 +171,7 @@ fn line(question: &Question, outcome: &Outcome) -> String {
     if width(question.asked) == 0 {
         return front;
     }
-    tray.resize(question.room, MARK);
+    tray.resize(question.room, BEFORE);
     let numbers = tray.iter().map(|number| format!(" {number}"));
     format!("{front}, tray{}", numbers.collect::<String>())
 }

@@ -1,6 +1,7 @@
 //! The comparisons: for each a name, our answer and the original's, on the same input.
 use crate::case::Case;
 use crate::document::{self, Refusal};
+use crate::exact::{self, Exact};
 use crate::kinds::{REENTRANT, STREAMING};
 use crate::pinnaclemug::{self, HEIGHT, ROW};
 use crate::refusals::*;
@@ -41,12 +42,18 @@ pub struct Comparison {
 }
 
 /// A comparison more is a line more. Our side is a proved function in each.
-pub const COMPARISONS: [Comparison; 9] = [
+pub const COMPARISONS: [Comparison; 11] = [
     Comparison {
         name: "cycles",
         each: Each::Chunk,
         ours: |case, c, _| cycles(&case.words, c),
         original: original_cycles,
+    },
+    Comparison {
+        name: "mark",
+        each: Each::Chunk,
+        ours: |case, c, _| numbers_of(walk(&case.words, c), |walk| vec![walk[2]]),
+        original: |case, c, _| original_mark(case, c),
     },
     Comparison {
         name: "public cycles",
@@ -80,13 +87,19 @@ pub const COMPARISONS: [Comparison; 9] = [
     Comparison {
         name: "sheet",
         each: Each::Module,
-        ours: |case, _, _| of_lines(our_sheet(case), |lines| fields(lines).collect()),
+        ours: |case, _, _| numbers_of(our_sheet(case), |lines| fields(lines).collect()),
         original: original_sheet,
+    },
+    Comparison {
+        name: "sheet, marks",
+        each: Each::Module,
+        ours: |case, _, _| numbers_of(our_sheet(case), |lines| column(lines, MARK).collect()),
+        original: |case, _, _| original_marks(case),
     },
     Comparison {
         name: "whole",
         each: Each::Module,
-        ours: |case, _, _| of_lines(our_sheet(case), |lines| wholes(lines).collect()),
+        ours: |case, _, _| numbers_of(our_sheet(case), |lines| column(lines, WHOLE).collect()),
         original: original_wholes,
     },
     Comparison {
@@ -113,21 +126,25 @@ fn our_sheet(case: &Case) -> Outcome {
     sheet(&case.words, ROW * case.chunks.len() + spare(case))
 }
 
-/// The numbers of our lines that the original has too.
+/// Where the mark and the whole figure stand in a line of ours.
+pub const MARK: usize = 1;
+pub const WHOLE: usize = 4;
+
+/// The numbers of our lines that the original has too: cycles, peak and bytes.
 pub fn fields<T: Copy>(lines: &[T]) -> impl Iterator<Item = T> {
-    let each = lines.chunks(ROW).map(|line| &line[..FIELDS]);
-    each.flatten().copied()
+    let each = lines.chunks(ROW);
+    each.flat_map(|line| [line[0], line[2], line[3]])
 }
 
-/// Those that it has not.
-pub fn wholes<T: Copy>(lines: &[T]) -> impl Iterator<Item = T> {
-    lines.iter().skip(FIELDS).step_by(ROW).copied()
+/// One of those that it has not, of each line.
+pub fn column<T: Copy>(lines: &[T], place: usize) -> impl Iterator<Item = T> {
+    lines.iter().skip(place).step_by(ROW).copied()
 }
 
-/// Some numbers of the lines, or the refusal.
-fn of_lines(outcome: Outcome, numbers: impl Fn(&[i64]) -> Vec<i64>) -> Outcome {
+/// Some numbers of an answer, or the refusal.
+fn numbers_of(outcome: Outcome, numbers: impl Fn(&[i64]) -> Vec<i64>) -> Outcome {
     match outcome {
-        Answer(lines) => Answer(numbers(&lines)),
+        Answer(all) => Answer(numbers(&all)),
         refused => refused,
     }
 }
@@ -141,12 +158,21 @@ pub fn unpacked(refusal: pinnaclemug::Refusal) -> Outcome {
     )
 }
 
-/// The cycles, and 1 if the row ends.
-pub fn cycles(words: &[u32], c: usize) -> Outcome {
+/// The cycles, 1 if the row ends, and 1 if the cycles are cut.
+pub fn walk(words: &[u32], c: usize) -> Outcome {
     match pinnaclemug::cycles(words, c as u32) {
-        Ok(walk) => Answer(vec![i64::from(walk.cycles), i64::from(walk.ends)]),
+        Ok(walk) => Answer(vec![
+            i64::from(walk.cycles),
+            i64::from(walk.ends),
+            i64::from(walk.cut),
+        ]),
         Err(refusal) => unpacked(refusal),
     }
+}
+
+/// The same without the mark, which the original has not.
+pub fn cycles(words: &[u32], c: usize) -> Outcome {
+    numbers_of(walk(words, c), |walk| walk[..2].to_vec())
 }
 
 pub fn count(words: &[u32], c: usize, p: usize) -> Outcome {
@@ -250,6 +276,52 @@ fn walked_cycles(case: &Case, c: usize) -> Outcome {
     }
 }
 
+/// Why a mark is set apart: whether one is yes.
+fn reason(cut: bool) -> &'static str {
+    if cut { "cut" } else { "exact" }
+}
+
+/// The original's cycles, 1 if the row ends, and 1 if the plain walk without a cap has more than 4,294,967,295. Up to that number the two have to have the same.
+pub fn original_walk(case: &Case, c: usize) -> Expected {
+    let mut walk = match original_cycles(case, c, 0) {
+        Same(Answer(walk)) => walk,
+        other => return other,
+    };
+    let chunk = &case.module.chunks[c];
+    let exact = Exact {
+        chunk: &case.chunks[c],
+        count: |p| oracle::count(chunk, p).expect("a walked loop has a count"),
+    };
+    let (from, to) = document::range(&case.chunks[c]).expect("a walked chunk has a range");
+    let figure = exact.cycles(from, to);
+    let capped = figure.min(u128::from(u32::MAX)) as i64;
+    assert_eq!(capped, walk[0], "the plain walk has other cycles");
+    walk.push(i64::from(exact::is_cut(figure)));
+    Same(Answer(walk))
+}
+
+/// The mark alone, which is the plain walk's.
+fn original_mark(case: &Case, c: usize) -> Expected {
+    match original_walk(case, c) {
+        Same(Answer(walk)) => Apart(reason(walk[2] == 1), Answer(vec![walk[2]])),
+        other => other,
+    }
+}
+
+/// The marks of a sheet that the original has; else its refusal.
+fn original_marks(case: &Case) -> Expected {
+    let chunks = match original_sheet(case, 0, 0) {
+        Same(Answer(_)) => 0..case.chunks.len(),
+        refused => return refused,
+    };
+    let marks = chunks.map(|c| match original_mark(case, c) {
+        Apart(_, Answer(mark)) => mark[0],
+        _ => panic!("a chunk of a sheet has cycles"),
+    });
+    let marks: Vec<i64> = marks.collect();
+    Apart(reason(marks.contains(&1)), Answer(marks))
+}
+
 /// Our cycles; in a Stream chunk with those of Stream and Reset, which the original adds.
 fn our_public_cycles(case: &Case, c: usize, _: usize) -> Outcome {
     match cycles(&case.words, c) {
@@ -349,7 +421,7 @@ fn original_wholes(case: &Case, c: usize, p: usize) -> Expected {
         match oracle::cycles_over(&case.module.chunks[c], &figures) {
             Some(figure) => figures[c] = figure,
             None => {
-                let ours = of_lines(our_sheet(case), |lines| wholes(lines).collect());
+                let ours = numbers_of(our_sheet(case), |lines| column(lines, WHOLE).collect());
                 return Apart("a callee's figure is no extra", ours);
             }
         }
@@ -357,18 +429,20 @@ fn original_wholes(case: &Case, c: usize, p: usize) -> Expected {
     Same(Answer(figures.into_iter().map(i64::from).collect()))
 }
 
-/// All numbers of the lines, for the stored list: the original's, and the figures with callees.
+/// All numbers of the lines, for the stored list: the original's, the marks, and the figures with callees.
 pub fn original_lines(case: &Case) -> Expected {
     let lines = match original_sheet(case, 0, 0) {
         Same(Answer(lines)) => lines,
         refused => return refused,
     };
+    let Apart(_, Answer(marks)) = original_marks(case) else {
+        panic!("a sheet has marks")
+    };
     let joined = |figures: Vec<i64>| {
-        let each = lines.chunks(FIELDS).zip(figures);
-        Answer(
-            each.flat_map(|(line, figure)| [line, &[figure]].concat())
-                .collect(),
-        )
+        let each = lines.chunks(FIELDS).zip(&marks).zip(figures);
+        let joined =
+            each.flat_map(|((line, mark), figure)| [line[0], *mark, line[1], line[2], figure]);
+        Answer(joined.collect())
     };
     match original_wholes(case, 0, 0) {
         Same(Answer(figures)) => Same(joined(figures)),

@@ -2,7 +2,7 @@
 use super::{Asked, List};
 use crate::form::{self, Chunk, MOST_CHUNKS, Op};
 use crate::kinds::*;
-use crate::pieces::{chunk, chunk_l, op, ops};
+use crate::pieces::{chunk, chunk_l, longer_l, op, ops, with_extra};
 use crate::pinnaclemug::ROW;
 use crate::refusals::*;
 
@@ -84,20 +84,9 @@ fn chains(list: &mut List) {
         .whole(&figures);
 }
 
-/// Chunk L with its end and some ops behind its BreakIf, targets moved.
-fn longer_l(end: i64, more: Vec<Op>) -> Chunk {
-    let mut held = chunk_l(&[0, end, 1]);
-    held.ops[4].a += more.len() as u16;
-    held.ops[8].a += more.len() as u16;
-    held.ops.splice(9..9, more);
-    held
-}
-
 /// A chunk of one op with this extra.
 fn extra(ops: Vec<Op>, extra: u32) -> Chunk {
-    let mut held = func(ops);
-    held.extras = vec![extra];
-    held
+    with_extra(&func(ops), 0, extra)
 }
 
 /// The cap: a callee there is only a great number, and its Call's extra alone is asked for open text.
@@ -136,7 +125,7 @@ fn blocks(list: &mut List) {
     .whole(&[36, 20]);
 }
 
-/// Four numbers a chunk; the words are looked at before the tray.
+/// A row of numbers a chunk; the words are looked at before the tray.
 fn trays(list: &mut List) {
     let held = form::write(&[chunk_l(&[0, 3, 1])]);
     list.tray(

@@ -1,16 +1,15 @@
--- Products of 32 bits, breaks noted, charges, and the steps that join arms or pass a body, said of the values that the code reads.
+-- Products by a count, by one division, breaks noted, charges, and the steps that join arms or pass a body, said of the values that the code reads.
 -- Assumes nothing.
-use mathlib.Core.Path.{_≡_, sym, _∙_, subst⁻¹}
+use mathlib.Core.Path.{_≡_, sym, _∙_}
 use mathlib.Core.Bool.{Bool, true, false, _&&_}
 use mathlib.Core.List.{List}
-use Prim.Native.Nat.{ℕ, suc, _+_, _*_, _^_, _<_, max}
-use native.Mathlib.Nat.{le-of-lt, lt-of-le-of-lt, mul-le-mul-left, mul-lt-mul-of-pos-right}
+use Prim.Native.Nat.{ℕ, suc, _+_, _*_, _/_, _^_, _≤_, _<_, max}
+use native.Mathlib.Nat.{mul-zero, mul-suc, mul-comm, div-add-mod, mod-lt, mul-le-mul-left}
 use native.Mathlib.Numerals.{add-one}
 use native.Mathlib.Omega.{arith}
 use borrow.Author.Tests.{leb-true, leb-false, eq-eqb, ne-eqb}
 use lib.Dec.{leb}
 use lib.ListN.{length, getD}
-use lib.Pow.{pow-pos, pow-add}
 use Rattle.rules.specs.Ops.{figuresOf}
 use Rattle.rules.specs.Reading.{constantsOf, extrasOf, extraAt}
 use Rattle.rules.specs.Count.{countAt}
@@ -24,11 +23,20 @@ use Rattle.cycles.specs.declared.region.Cost.{Cost}
 use Rattle.cycles.specs.declared.region.Step.the-variants.{Goes, Refused}
 use Rattle.cycles.specs.Steps.{cut, endedAt, endsOr, joined, allPassesAt, onePassAt}
 
--- the product of two numbers of k bits has at most k + k
-pub below : (k : ℕ) {a b : ℕ} → a < 2 ^ k → b < 2 ^ k → a * b < 2 ^ (k + k)
-below k {a} {b} ha hb =
-    subst⁻¹ (λ (n : ℕ). a * b < n) (pow-add 2 k k)
-    (lt-of-le-of-lt (mul-le-mul-left a (le-of-lt hb)) (mul-lt-mul-of-pos-right ha (pow-pos k)))
+-- no pass costs nothing
+pub no-times : (a n : ℕ) → n ≡ 0 → 0 ≡ cut (a * n)
+no-times a n h = rw h (omega (arith, mul-zero a))
+
+-- for any cap: a product by n is within it exactly if the other factor is at most the cap divided by n
+pub product-fits : (cap a n : ℕ) → 0 < n → a ≤ cap / n → a * n ≤ cap
+product-fits cap a n h le =
+    let k : n * a ≤ n * (cap / n) = mul-le-mul-left n le in
+    omega (arith, k, div-add-mod cap n, mul-comm a n)
+
+pub product-over : (cap a n : ℕ) → 0 < n → cap / n < a → cap < a * n
+product-over cap a n h lt =
+    let k : n * suc (cap / n) ≤ n * a = mul-le-mul-left n (omega (arith, lt)) in
+    omega (arith, k, mul-suc n (cap / n), div-add-mod cap n, mod-lt cap h, mul-comm a n)
 
 -- a break that is no costlier changes nothing; the first one and a costlier one are kept
 module _ (met : Bool) (most cost : ℕ) where
@@ -46,11 +54,12 @@ module _ (ops extras : List ℕ) (i x : ℕ) (is : x ≡ extraAt (extrasOf extra
   pub charge-none : x ≡ 4294967295 → no 8 i ≡ chargeAt ops extras i
   charge-none e = rw (eq-eqb (extraAt (extrasOf extras) i) 4294967295 (sym is ∙ e))
 
-  pub charge-some : (x ≡ 4294967295 → ⊥) → i < length ops → (own y : ℕ) → own ≡ figuresOf (getD ops i 0) .cycles → y ≡ cut (own + x)
-      → ok y ≡ chargeAt ops extras i
-  charge-some n lt own y e s =
+  pub charge-some : (x ≡ 4294967295 → ⊥) → i < length ops → (own : ℕ) → own ≡ figuresOf (getD ops i 0) .cycles → own < 2 ^ 32 → x < 2 ^ 32
+      → ok (own + x) ≡ chargeAt ops extras i
+  charge-some n lt own e small extra =
       let alone : own + x + 0 ≡ own + x = omega arith in
-      rw (ne-eqb (extraAt (extrasOf extras) i) 4294967295 (λ q. n (is ∙ q)), read-op ops i, none-charged (getD ops i 0), ← is, ← e, alone, s)
+      let fits : cut (own + x) ≡ own + x = omega arith in
+      rw (ne-eqb (extraAt (extrasOf extras) i) 4294967295 (λ q. n (is ∙ q)), read-op ops i, none-charged (getD ops i 0), ← is, ← e, alone, fits)
 
 -- a body that never reaches its end
 module _ (e cost s : ℕ) (body : Cost) (b : Breaks) where

@@ -7,7 +7,6 @@ use Rattle.rules.specs.Ops.{opAt}
 use Rattle.rules.specs.Form.{Chunk}
 use Rattle.rules.specs.Reading.{constantsOf, extrasOf}
 use Rattle.rules.specs.Count.{countOf}
-use Rattle.rules.specs.Limits.{cycleCap}
 use Rattle.rules.specs.Cycles as R
 use Rattle.rows.specs.Tree.{treeOf}
 use Rattle.cycles.specs.declared.sums.Breaks.{Breaks}
@@ -15,6 +14,10 @@ use Rattle.cycles.specs.declared.charge.Charge.{Charge}
 use Rattle.cycles.specs.declared.charge.Charge.the-variants.{Is, OpenText}
 use Rattle.cycles.specs.declared.region.Cost.{Cost}
 use Rattle.cycles.specs.declared.region.Walk as W
+
+-- where the walk of the code stops, 2^64 - 1: above 4,294,967,295, so that the answer's figure and mark are told by it (EntryLaws)
+abbrev pub wideCap : ℕ
+wideCap = 18446744073709551615
 
 -- a flag and the greatest
 abbrev pub breaksFrom : Bool → ℕ → R.Breaks
@@ -31,7 +34,7 @@ chunkOf constants ops extras =
 
 -- the capped charge of an op, without what a callee adds
 abbrev pub capCharge : Result ℕ → Result ℕ
-capCharge (ok c) = ok (min cycleCap c)
+capCharge (ok c) = ok (min wideCap c)
 capCharge (no n p) = no n p
 
 abbrev pub chargeAt : List ℕ → List ℕ → ℕ → Result ℕ
@@ -51,7 +54,7 @@ walkResult (W.the-variants.Refused n p) = no n p
 -- the walk of the positions from i up to `to` of a chunk over its callees' whole figures, with so many levels left, from a cost and breaks
 abbrev pub regionCost : Chunk → List ℕ → ℕ → ℕ → ℕ → ℕ → R.Breaks → Result R.Cost
 regionCost c wholes i to left cost breaks =
-    R.rowCost (min cycleCap) (R.chargeOf c wholes) (countOf c) (treeOf (opAt (c .ops)) i to) left cost breaks
+    R.rowCost (min wideCap) (R.chargeOf c wholes) (countOf c) (treeOf (opAt (c .ops)) i to) left cost breaks
 
 -- the same of a body, one level deeper
 abbrev pub partCost : Chunk → List ℕ → ℕ → ℕ → ℕ → R.Breaks → Result R.Cost

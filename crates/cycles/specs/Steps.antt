@@ -7,17 +7,16 @@ use Rattle.rules.specs.Outcome.{Result, ok, no, andThen}
 use Rattle.rules.specs.Ops.{opAt}
 use Rattle.rules.specs.Form.{Chunk}
 use Rattle.rules.specs.Count.{countOf}
-use Rattle.rules.specs.Limits.{cycleCap}
 use Rattle.rules.specs.Cycles as R
 use Rattle.rows.specs.Tree.{HasRow}
 use Rattle.cycles.specs.declared.sums.Breaks.{Breaks}
 use Rattle.cycles.specs.declared.region.Cost.{Cost}
 use Rattle.cycles.specs.declared.region.Step.{Step}
 use Rattle.cycles.specs.declared.region.Step.the-variants.{Goes, Ends, Refused}
-use Rattle.cycles.specs.Answers.{breaksOf, costOf, chunkOf, chargeAt, regionCost, partCost}
+use Rattle.cycles.specs.Answers.{wideCap, breaksOf, costOf, chunkOf, chargeAt, regionCost, partCost}
 
 abbrev pub cut : ℕ → ℕ
-cut n = min cycleCap n
+cut n = min wideCap n
 
 -- how a row that ends at `to` goes on from a step
 abbrev pub stepResult : Chunk → List ℕ → ℕ → ℕ → Step → Result R.Cost

@@ -1,5 +1,4 @@
 // The charge of an op: its cycles and its extra. What a callee adds to its Call is added by the walk.
-use crate::sums::cap_add;
 use words::figures::cycles;
 use words::limits::OPEN_TEXT;
 use words::values::extra_at;
@@ -10,7 +9,7 @@ ghost use Rattle.cycles.specs.Answers.{chargeResult, chargeAt};
 
 // A charge, or open text: the greatest extra.
 pub enum Charge {
-    Is(u32),
+    Is(u64),
     OpenText,
 }
 
@@ -23,5 +22,5 @@ pub fn op_wcet_cycles(ops: &[u32], extras: &[u32], i: usize) -> Charge
     if extra == OPEN_TEXT {
         return Charge::OpenText;
     }
-    Charge::Is(cap_add(cycles(ops[i]), extra))
+    Charge::Is(cycles(ops[i]) as u64 + extra as u64)
 }

@@ -20,9 +20,9 @@ ghost use Rattle.rows.specs.Opens.{RowFits, StepFits, IfFits, ElseFits, LoopFit
 ghost use Rattle.cycles.specs.Answers.{breaksOf, walkResult, partCost, regionCost, chunkOf};
 ghost use Rattle.cycles.specs.Steps.{StepMeans, IfMeans, ElseMeans, LoopMeans, endedAt, joined, allPassesAt, onePassAt};
 
-// What the walk of a row gives: its cycles, whether it ends, and the breaks out of the loop around it.
+// What the walk of a row gives: its cycles up to the wide cap, whether it ends, and the breaks out of the loop around it.
 pub struct Cost {
-    pub cycles: u32,
+    pub cycles: u64,
     pub ends: bool,
     pub breaks: Breaks,
 }
@@ -35,13 +35,13 @@ pub enum Walk {
 
 // How a row goes on behind an op or a block: at a position with a cost and breaks, or it ends, or a refusal.
 pub enum Step {
-    Goes(usize, u32, Breaks),
+    Goes(usize, u64, Breaks),
     Ends(Cost),
     Refused { number: u32, place: usize },
 }
 
 // A cost of a row that ends.
-fn ended(cycles: u32, breaks: Breaks) -> Step
+fn ended(cycles: u64, breaks: Breaks) -> Step
     ensures { λ r. ⌜ r ≡ endedAt cycles breaks ⌝ }
 {
     Step::Ends(Cost {
@@ -67,7 +67,7 @@ pub fn wcet_region_at(
     ensures { λ r. ⌜ walkResult r ≡ regionCost (chunkOf (now (constants .entry)) (now (ops .entry)) (now (extras .entry))) (now (wholes .entry)) from to left 0 (breaksOf breaks) ⌝ }
 {
     let mut i = from;
-    let mut cycles: u32 = 0;
+    let mut cycles: u64 = 0;
     let mut met = breaks;
     while i < to {
         let step = wcet_step(constants, ops, extras, wholes, i, left, cycles, met);
@@ -100,7 +100,7 @@ fn wcet_step(
     wholes: &[u32],
     i: usize,
     left: u16,
-    cycles: u32,
+    cycles: u64,
     breaks: Breaks,
 ) -> Step
     requires { ⌜ ((to : ℕ) × StepFits (now ops) i to) ⌝ }
@@ -135,7 +135,7 @@ fn wcet_step(
             breaks,
         ),
         Block::Loop(e) => wcet_loop(constants, ops, extras, wholes, i, e, left, cost, breaks),
-        Block::Call(k) => Step::Goes(next, cap_add(cost, number_at(wholes, k)), breaks),
+        Block::Call(k) => Step::Goes(next, cap_add(cost, number_at(wholes, k) as u64), breaks),
     }
 }
 
@@ -171,7 +171,7 @@ fn wcet_if(
     i: usize,
     t: usize,
     left: u16,
-    cost: u32,
+    cost: u64,
     breaks: Breaks,
 ) -> Step
     requires { ⌜ ((to : ℕ) × IfFits (now ops) i t to) ⌝ }
@@ -206,7 +206,7 @@ fn wcet_else(
     e: usize,
     f: usize,
     left: u16,
-    cost: u32,
+    cost: u64,
     breaks: Breaks,
 ) -> Step
     requires { ⌜ ((to : ℕ) × ElseFits (now ops) i e f to) ⌝ }
@@ -236,7 +236,7 @@ fn join_arms(
     extras: &[u32],
     e: usize,
     f: usize,
-    cost: u32,
+    cost: u64,
     arm: Cost,
     other: Cost,
 ) -> Step
@@ -280,7 +280,7 @@ fn wcet_loop(
     i: usize,
     e: usize,
     left: u16,
-    cost: u32,
+    cost: u64,
     breaks: Breaks,
 ) -> Step
     requires { ⌜ ((to : ℕ) × LoopFits (now ops) i e to) ⌝ }
@@ -310,7 +310,7 @@ fn all_passes(
     extras: &[u32],
     i: usize,
     e: usize,
-    cost: u32,
+    cost: u64,
     body: Cost,
     breaks: Breaks,
 ) -> Step
@@ -341,7 +341,7 @@ fn all_passes(
 }
 
 // A body that never reaches EndLoop at e: charged once; without a break it ends the row.
-fn one_pass(e: usize, cost: u32, body: Cost, breaks: Breaks) -> Step
+fn one_pass(e: usize, cost: u64, body: Cost, breaks: Breaks) -> Step
     requires { ⌜ e < 65536 ⌝ }
     ensures { λ r. ⌜ r ≡ onePassAt e cost body breaks ⌝ }
 {

@@ -1,41 +1,39 @@
-// Sums and products that stop at 4,294,967,295, and the breaks of a loop.
-use words::limits::CYCLE_CAP;
+// Sums and products of the walk, and the breaks of a loop. Nothing uncapped can be held; but a walk that stops at any cap above 4,294,967,295 tells the figure up
+// to that number and whether the uncapped one is greater. This one stops at what 64 bits hold, so that the type gives the bound.
 ghost use mathlib.Core.Path.{_≡_};
 ghost use Prim.Native.Nat.{_+_, _*_, min};
-ghost use Rattle.rules.specs.Limits.{cycleCap};
 ghost use Rattle.rules.specs.Cycles.{noteBreak, breakCost};
-ghost use Rattle.cycles.specs.Answers.{breaksOf};
+ghost use Rattle.cycles.specs.Answers.{wideCap, breaksOf};
 
-// The cap, wide.
-const WIDE_CAP: u64 = CYCLE_CAP as u64;
+// Where the walk stops: 2^64 - 1.
+const WIDE_CAP: u64 = 18446744073709551615;
 
 // The breaks met so far: whether there was one, and the costliest.
 pub struct Breaks {
     pub met: bool,
-    pub costliest: u32,
+    pub costliest: u64,
 }
 
-// A sum that stops at the cap.
-pub fn cap_add(a: u32, b: u32) -> u32
-    ensures { λ r. ⌜ r ≡ min cycleCap (a + b) ⌝ }
+// A sum that stops at the wide cap.
+pub fn cap_add(a: u64, b: u64) -> u64
+    ensures { λ r. ⌜ r ≡ min wideCap (a + b) ⌝ }
 {
-    if b <= CYCLE_CAP - a { a + b } else { CYCLE_CAP }
+    if b <= WIDE_CAP - a { a + b } else { WIDE_CAP }
 }
 
-// A product that stops at the cap.
-pub fn cap_mul(a: u32, b: u32) -> u32
-    ensures { λ r. ⌜ r ≡ min cycleCap (a * b) ⌝ }
+// A product by a count that stops at the wide cap.
+pub fn cap_mul(a: u64, n: u32) -> u64
+    ensures { λ r. ⌜ r ≡ min wideCap (a * n) ⌝ }
 {
-    let wide = (a as u64) * (b as u64);
-    if wide <= WIDE_CAP {
-        wide as u32
-    } else {
-        CYCLE_CAP
+    let m = n as u64;
+    if m == 0 {
+        return 0;
     }
+    if a <= WIDE_CAP / m { a * m } else { WIDE_CAP }
 }
 
 // One break more.
-pub fn note_break(b: Breaks, cost: u32) -> Breaks
+pub fn note_break(b: Breaks, cost: u64) -> Breaks
     ensures { λ r. ⌜ breaksOf r ≡ noteBreak (breaksOf b) cost ⌝ }
 {
     if b.met && cost <= b.costliest {
@@ -48,7 +46,7 @@ pub fn note_break(b: Breaks, cost: u32) -> Breaks
 }
 
 // The costliest break, 0 where there is none.
-pub fn break_cost(b: Breaks) -> u32
+pub fn break_cost(b: Breaks) -> u64
     ensures { λ r. ⌜ r ≡ breakCost (breaksOf b) ⌝ }
 {
     if b.met { b.costliest } else { 0 }

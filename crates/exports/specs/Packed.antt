@@ -31,16 +31,19 @@ abbrev pub packedNumber : Outcome ℕ → ℕ
 packedNumber (answer n) = n
 packedNumber (refused n c p) = packedRefusal n c p
 
--- the ends flag above 32 bits of cycles
+-- flags above 32 bits of cycles: that the row ends, and that the cycles are cut
 abbrev pub endsFlag : ℕ
 endsFlag = 4294967296
 
-abbrev pub packedEnds : Bool → ℕ → ℕ
-packedEnds true c = c + endsFlag
-packedEnds false c = c
+abbrev pub cutFlag : ℕ
+cutFlag = 8589934592
+
+abbrev pub flagged : Bool → ℕ → ℕ
+flagged true value = value
+flagged false value = 0
 
 abbrev pub packedCycles : Outcome Cycles → ℕ
-packedCycles (answer k) = packedEnds (k .ends) (k .cycles)
+packedCycles (answer k) = k .cycles + flagged (k .ends) endsFlag + flagged (k .cut) cutFlag
 packedCycles (refused n c p) = packedRefusal n c p
 
 -- the stack walk: whether the row ends

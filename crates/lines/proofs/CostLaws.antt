@@ -12,15 +12,14 @@ use lib.Seq.{drop-cons}
 use Rattle.rules.specs.Kinds as K
 use Rattle.rules.specs.Outcome.{Result, ok, no, andThen}
 use Rattle.rules.specs.Ops.{kind, opAt}
-use Rattle.rules.specs.Limits.{cycleCap}
 use Rattle.rules.specs.Cycles as R
 use Rattle.rules.specs.Cycles.{calleeWhole}
 use Rattle.rules.proofs.Flags.{both}
 use Rattle.rules.proofs.Callees.{other-charged, callees-free}
 use Rattle.rows.specs.Tree.{treeOf}
 use Rattle.cycles.specs.Answers.{chunkOf}
-use Rattle.cycles.specs.Entry.{rangeCost}
-use Rattle.lines.specs.Costs.{bothAre, callsNone, bothCosts}
+use Rattle.cycles.specs.Entry.{rangeCycles}
+use Rattle.lines.specs.Costs.{bothOf, callsNone, bothCosts}
 
 -- the ops from i on, behind others of which `none` tells whether one is a Call
 module _ (ops : List ℕ) (i : ℕ) (none : Bool) where
@@ -42,16 +41,16 @@ free-ops wholes (w ∷ ops) h (suc i) = free-ops wholes ops (both (not (eqb (kin
 
 module _ (constants ops extras wholes : List ℕ) (from to : ℕ) where
   -- the first walk refuses
-  pub first-refused : {n p : ℕ} → no n p ≡ rangeCost (chunkOf constants ops extras) [] from to → no n p ≡ bothCosts (chunkOf constants ops extras) wholes from to
+  pub first-refused : {n p : ℕ} → no n p ≡ rangeCycles (chunkOf constants ops extras) [] from to → no n p ≡ bothCosts (chunkOf constants ops extras) wholes from to
   first-refused e = rw (← e)
 
-  module _ {k : R.Cost} (walked : ok k ≡ rangeCost (chunkOf constants ops extras) [] from to) where
+  module _ {k : R.Cycles} (walked : ok k ≡ rangeCycles (chunkOf constants ops extras) [] from to) where
     -- the second walk is left out
-    pub walked-once : callsNone ops ≡ true → ok (bothAre (k .cycles) (k .cycles)) ≡ bothCosts (chunkOf constants ops extras) wholes from to
+    pub walked-once : callsNone ops ≡ true → ok (bothOf k k) ≡ bothCosts (chunkOf constants ops extras) wholes from to
     walked-once h =
-        let same = callees-free (chunkOf constants ops extras) wholes (free-ops wholes ops h) cycleCap (treeOf (opAt ops) from to) in
+        let same = callees-free (chunkOf constants ops extras) wholes (free-ops wholes ops h) (treeOf (opAt ops) from to) in
         rw (same, ← walked)
 
-    pub walked-twice : {x : Result R.Cost} → x ≡ rangeCost (chunkOf constants ops extras) wholes from to
-        → andThen x (λ w. ok (bothAre (k .cycles) (w .cycles))) ≡ bothCosts (chunkOf constants ops extras) wholes from to
+    pub walked-twice : {x : Result R.Cycles} → x ≡ rangeCycles (chunkOf constants ops extras) wholes from to
+        → andThen x (λ w. ok (bothOf k w)) ≡ bothCosts (chunkOf constants ops extras) wholes from to
     walked-twice e = rw (← walked, e)

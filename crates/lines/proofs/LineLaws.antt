@@ -1,7 +1,7 @@
 -- The line of a chunk from the walks of its parts.
 -- Assumes nothing.
 use mathlib.Core.Path.{_≡_, refl, sym, _∙_}
-use mathlib.Core.Bool.{false}
+use mathlib.Core.Bool.{Bool, false}
 use mathlib.Core.List.{List, []}
 use Prim.Native.Nat.{ℕ}
 use Rattle.rules.specs.Outcome.{Result, ok, no, andThen}
@@ -16,19 +16,22 @@ use Rattle.words.specs.Parts.{partOf, PartsOf, PartsFit}
 use Rattle.rows.specs.Answers.{rangeRow}
 use Rattle.rows.proofs.PartRows.{row-refused, row-there}
 use Rattle.cycles.specs.Answers.{chunkOf}
-use Rattle.cycles.specs.Entry.{rangeCost}
-use Rattle.cycles.proofs.EntryLaws.{range-cost}
+use Rattle.cycles.specs.Entry.{rangeCycles}
+use Rattle.cycles.proofs.EntryLaws.{range-cycles}
 use Rattle.stack.specs.Answers.{partsStack}
 use Rattle.stack.proofs.EntryLaws.{whole-stack}
 use Rattle.lines.specs.declared.costs.Both.{Both}
-use Rattle.lines.specs.Costs.{bothAre, bothCosts}
+use Rattle.lines.specs.Costs.{bothOf, bothCosts}
 
--- a line from both figures of the cycle walks and the stack walk's
+-- a line from both figures of the cycle walks and the stack walk's; it says nothing of how a walk ends
+abbrev figure : ℕ → Bool → R.Cycles
+figure c m = record { cycles = c; ends = false; cut = m }
+
 abbrev pub lineWith : Both → T.Stack → S.Line
-lineWith b s = lineOf (R.costs (b .cycles) false R.unbroken) (R.costs (b .whole) false R.unbroken) s
+lineWith b s = lineOf (figure (b .cycles) (b .cut)) (figure (b .whole) false) s
 
-regroup : (x w : Result R.Cost) (y : Result T.Stack)
-    → andThen (andThen x (λ k. andThen w (λ f. ok (bothAre (k .cycles) (f .cycles))))) (λ b. andThen y (λ s. ok (lineWith b s)))
+regroup : (x w : Result R.Cycles) (y : Result T.Stack)
+    → andThen (andThen x (λ k. andThen w (λ f. ok (bothOf k f)))) (λ b. andThen y (λ s. ok (lineWith b s)))
     ≡ andThen x (λ k. andThen w (λ f. andThen y (λ s. ok (lineOf k f s))))
 regroup (ok k) (ok f) y = refl
 regroup (ok k) (no n p) y = refl
@@ -48,8 +51,8 @@ module _ {ws : List ℕ} {p : Parts} (fits : PartsFit ws p) {ops : List ℕ} (is
     line-told {x} e {y} f =
         rw (
           row-there parts (fits .short) is-ops row .tree,
-          range-cost parts is-constants is-ops is-extras [] g,
-          range-cost parts is-constants is-ops is-extras wholes g,
+          range-cycles parts is-constants is-ops is-extras [] g,
+          range-cycles parts is-constants is-ops is-extras wholes g,
           whole-stack parts is-ops is-constants callees g ∙ sym f,
           e,
-        ) (regroup (rangeCost (chunkOf constants ops extras) [] (g .from) (g .to)) (rangeCost (chunkOf constants ops extras) wholes (g .from) (g .to)) y)
+        ) (regroup (rangeCycles (chunkOf constants ops extras) [] (g .from) (g .to)) (rangeCycles (chunkOf constants ops extras) wholes (g .from) (g .to)) y)

@@ -7,14 +7,15 @@ use Rattle.rules.specs.Kinds as K
 use Rattle.rules.specs.Outcome.{Result, ok, no, andThen}
 use Rattle.rules.specs.Ops.{kind}
 use Rattle.rules.specs.Form.{Chunk}
-use Rattle.cycles.specs.Entry.{rangeCost}
+use Rattle.rules.specs.Cycles.{Cycles}
+use Rattle.cycles.specs.Entry.{rangeCycles}
 use Rattle.lines.specs.declared.costs.Both.{Both}
 use Rattle.lines.specs.declared.costs.Costs.{Costs}
 use Rattle.lines.specs.declared.costs.Costs.the-variants.{Are, Refused}
 
--- both figures of a chunk
-abbrev pub bothAre : ℕ → ℕ → Both
-bothAre c w = record { cycles = c; whole = w }
+-- both figures of a chunk, from the cycle walk without its callees and the one with them
+abbrev pub bothOf : Cycles → Cycles → Both
+bothOf k w = record { cycles = k .cycles; cut = k .cut; whole = w .cycles }
 
 abbrev pub costsResult : Costs → Result Both
 costsResult (Are b) = ok b
@@ -23,7 +24,7 @@ costsResult (Refused n p) = no n p
 -- the walk over no figures, and the one over those of the callees
 abbrev pub bothCosts : Chunk → List ℕ → ℕ → ℕ → Result Both
 bothCosts c wholes from to =
-    andThen (rangeCost c [] from to) (λ k. andThen (rangeCost c wholes from to) (λ w. ok (bothAre (k .cycles) (w .cycles))))
+    andThen (rangeCycles c [] from to) (λ k. andThen (rangeCycles c wholes from to) (λ w. ok (bothOf k w)))
 
 -- none of these words is a Call
 unfoldable pub callsNone : List ℕ → Bool

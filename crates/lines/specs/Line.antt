@@ -6,7 +6,7 @@ use Rattle.lines.specs.declared.line.LineAnswer.{LineAnswer}
 use Rattle.lines.specs.declared.line.LineAnswer.the-variants.{Is, Refused}
 
 abbrev pub lineIs : Line → R.Line
-lineIs l = record { cycles = l .cycles; peak = l .peak .0; bytes = l .bytes .0; whole = l .whole }
+lineIs l = record { cycles = l .cycles; cut = l .cut; peak = l .peak .0; bytes = l .bytes .0; whole = l .whole }
 
 abbrev pub lineResult : LineAnswer → Result R.Line
 lineResult (Is l) = ok (lineIs l)

@@ -1,6 +1,6 @@
 // A chunk's cycles, and the same with its callees.
+use cycles::entry::FigureAnswer;
 use cycles::entry::wcet_region;
-use cycles::region::Walk;
 use words::fields;
 use words::kinds;
 ghost use mathlib.Core.Path.{_≡_};
@@ -8,9 +8,10 @@ ghost use Rattle.rows.specs.Opens.{RowFits};
 ghost use Rattle.cycles.specs.Answers.{chunkOf};
 ghost use Rattle.lines.specs.Costs.{costsResult, callsNone, bothCosts};
 
-// A chunk's cycles, and with its callees.
+// A chunk's cycles, whether they are cut, and the cycles with its callees.
 pub struct Both {
     pub cycles: u32,
+    pub cut: bool,
     pub whole: u32,
 }
 
@@ -46,25 +47,28 @@ pub fn chunk_costs(
     ensures { λ r. ⌜ costsResult r ≡ bothCosts (chunkOf (now (constants .entry)) (now (ops .entry)) (now (extras .entry))) (now (wholes .entry)) from to ⌝ }
 {
     let walk = wcet_region(constants, ops, extras, &wholes[..0], from, to);
-    let cost = match walk {
-        Walk::Done(c) => c,
-        Walk::Refused { number, place } => {
+    let own = match walk {
+        FigureAnswer::Is(f) => f,
+        FigureAnswer::Refused { number, place } => {
             return Costs::Refused { number, place };
         }
     };
-    let cycles = cost.cycles;
+    let cycles = own.cycles;
+    let cut = own.cut;
     if calls_none(ops) {
         return Costs::Are(Both {
             cycles,
+            cut,
             whole: cycles,
         });
     }
     let charged = wcet_region(constants, ops, extras, wholes, from, to);
     match charged {
-        Walk::Done(c) => Costs::Are(Both {
+        FigureAnswer::Is(f) => Costs::Are(Both {
             cycles,
-            whole: c.cycles,
+            cut,
+            whole: f.cycles,
         }),
-        Walk::Refused { number, place } => Costs::Refused { number, place },
+        FigureAnswer::Refused { number, place } => Costs::Refused { number, place },
     }
 }

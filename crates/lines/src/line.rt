@@ -17,9 +17,10 @@ ghost use Rattle.rules.specs.Sheet.{chunkLine};
 ghost use Rattle.words.specs.Parts.{PartsOf, PartsFit};
 ghost use Rattle.lines.specs.Line.{lineResult};
 
-// A chunk's line: cycles, peak in slots, stack bytes, and the cycles with its callees.
+// A chunk's line: cycles, whether they are cut, peak in slots, stack bytes, and the cycles with its callees.
 pub struct Line {
     pub cycles: u32,
+    pub cut: bool,
     pub peak: Slots,
     pub bytes: StackBytes,
     pub whole: u32,
@@ -62,6 +63,7 @@ pub fn chunk_line(words: &[u32], p: Parts, callees: &[u32], wholes: &[u32]) -> L
             bytes,
         } => LineAnswer::Is(Line {
             cycles: cost.cycles,
+            cut: cost.cut,
             peak,
             bytes,
             whole: cost.whole,

@@ -106,17 +106,23 @@ fn show_count(words: &[u32], c: usize, p: usize) {
     }
 }
 
-// The cycles, and 1 if the row ends, else 0.
+// A yes or no behind a space, as 1 or 0.
+fn write_flag(is: bool) {
+    if is {
+        write(b" 1");
+    } else {
+        write(b" 0");
+    }
+}
+
+// The cycles, whether the row ends, and whether the cycles are cut.
 fn show_cycles(words: &[u32], c: usize) {
     let answer = cycle_walk(words, c);
     match answer {
-        CyclesAnswer::Are { cycles, ends } => {
+        CyclesAnswer::Are { cycles, ends, cut } => {
             write_number(cycles as u64);
-            if ends {
-                write(b" 1");
-            } else {
-                write(b" 0");
-            }
+            write_flag(ends);
+            write_flag(cut);
         }
         CyclesAnswer::Refused {
             number,

@@ -1,23 +1,40 @@
--- The lines of a sheet, printed in order: a line by its fields, one line more, and a text written over a list, one line a turn. Assumes nothing.
+-- The lines of a sheet, printed in order: a line by its fields and its mark, one line more, and a text written over a list, one line a turn. Assumes nothing.
 use mathlib.Core.Path.{_≡_, refl, sym, _∙_}
+use mathlib.Core.Bool.{Bool, true, false}
 use mathlib.Core.List.{List, [], _∷_, _++_, flatten, append-assoc, append-nil}
 use Prim.Native.Nat.{ℕ, zero, suc, _+_, _*_, _<_, _≤_}
 use native.Mathlib.Numerals.{add-one}
 use native.Mathlib.Omega.{arith}
 use lib.ListN.{length, getD, take, drop}
-use Rattle.rules.specs.Sheet.{Line, noLine, lineNumbers, lineWidth, trayNumbers}
-use Rattle.rules.specs.Text.{space, newline, lineMost, lineText, linesText}
+use Rattle.rules.specs.Sheet.{Line, noLine, markNumber, lineNumbers, lineWidth, trayNumbers}
+use Rattle.rules.specs.Text.{decimal, space, newline, plusSign, lineMost, lineText, linesText}
 use Rattle.text.specs.Field.{fieldText}
 use Rattle.text.specs.Paste.{Put}
+use Rattle.report.specs.Report.{cyclesText}
 use Rattle.text.proofs.PasteLaws.{then, pasted-none}
 use Rattle.sheets.proofs.TrayLaws.{tray-size, tray-row}
 
+-- the cycles of a line are a field, or one that a plus sign ends and a space, as the mark of the row says
+pub cycles-exact : (n mark : ℕ) → mark ≡ 0 → (cut : Bool) → mark ≡ markNumber cut → fieldText n space ≡ cyclesText n cut
+unfolding fieldText cyclesText
+cycles-exact n mark none true is = absurd (omega arith)
+cycles-exact n mark none false is = refl
+
+pub cycles-cut : (n mark : ℕ) → (mark ≡ 0 → ⊥) → (cut : Bool) → mark ≡ markNumber cut → fieldText n plusSign ++ (space ∷ []) ≡ cyclesText n cut
+unfolding fieldText cyclesText
+cycles-cut n mark some true is = append-assoc (decimal n) (plusSign ∷ []) (space ∷ [])
+cycles-cut n mark some false is = absurd (some is)
+
+-- the mark of a row is its line's
+pub row-mark : (l : Line) {row : List ℕ} → row ≡ lineNumbers l → getD row 1 0 ≡ markNumber (l .cut)
+row-mark l is = rw is
+
 -- the fields of a line: the chunk, and the numbers of its row
 pub row-line : (c : ℕ) (l : Line) {row : List ℕ} → row ≡ lineNumbers l
-    → flatten (fieldText c space ∷ fieldText (getD row 0 0) space ∷ fieldText (getD row 1 0) space ∷ fieldText (getD row 2 0) space
-    ∷ fieldText (getD row 3 0) newline ∷ [])
+    → flatten (fieldText c space ∷ cyclesText (getD row 0 0) (l .cut) ∷ fieldText (getD row 2 0) space ∷ fieldText (getD row 3 0) space
+    ∷ fieldText (getD row 4 0) newline ∷ [])
     ≡ lineText c l
-unfolding flatten fieldText
+unfolding flatten fieldText cyclesText
 row-line c l is = rw is (simp (append-assoc, append-nil))
 
 -- one line more

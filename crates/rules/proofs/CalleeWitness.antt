@@ -51,10 +51,11 @@ abbrev numbers : Sheet
 numbers =
     record {
       order = 1 ∷ 0 ∷ [];
-      lines = record { cycles = 74; peak = 6; bytes = 288; whole = 92 } ∷ record { cycles = 9; peak = 3; bytes = 160; whole = 9 } ∷ [];
+      lines = record { cycles = 74; cut = false; peak = 6; bytes = 288; whole = 92 } ∷ record { cycles = 9; cut = false; peak = 3; bytes = 160; whole = 9 }
+          ∷ [];
     }
 
-pub witness-accepted : Accepted (moduleWords pair) 8 pair numbers
+pub witness-accepted : Accepted (moduleWords pair) 10 pair numbers
 unfolding flatMap inGroups brokenAt takeWhile dropWhile constantsOf extrasOf chunksOf parse firstBackward strayBreak lastSet neverSets rowCost rowHeight member calleesIn visitEach visit upFrom linesIn
 witness-accepted = record { reads = refl; answers = refl }
 
@@ -92,7 +93,7 @@ unfolding pathCycles path settle inGroups
 witness-cycles = (refl, refl)
 
 pub witness-cycles-bounded : min cycleCap (pathCycles pair (path pair false (begin pair 0) (ways 0))) ≤ lineAt numbers 0 .cycles
-witness-cycles-bounded = cycles-bounded (moduleWords pair) 8 pair numbers witness-accepted 0 (omega arith) (ways 0) witness-keeps-counts
+witness-cycles-bounded = cycles-bounded (moduleWords pair) 10 pair numbers witness-accepted 0 (omega arith) (ways 0) witness-keeps-counts
 
 -- as a path of claim (b): its depths are kept, and its stack bytes are the line's
 pub witness-keeps-depths : KeepsDepths pair true (begin pair 0) (ways 7)
@@ -111,7 +112,7 @@ unfolding pathDepth path settle inGroups upFrom
 witness-deepest = (refl, refl, refl)
 
 pub witness-stack-bounded : pathBytes pair 0 (path pair true (begin pair 0) (ways 7)) ≤ lineAt numbers 0 .bytes
-witness-stack-bounded = stack-bounded (moduleWords pair) 8 pair numbers witness-accepted 0 (omega arith) (ways 7) witness-keeps-depths
+witness-stack-bounded = stack-bounded (moduleWords pair) 10 pair numbers witness-accepted 0 (omega arith) (ways 7) witness-keeps-depths
 
 -- as a path of 2.1's claim: its counts are kept with the callee run, and its cycles are the line's whole figure
 pub witness-keeps-counts-run : KeepsCounts pair true (begin pair 0) (ways 7)
@@ -123,4 +124,4 @@ unfolding pathCycles path settle inGroups
 witness-whole = (refl, refl)
 
 pub witness-whole-bounded : min cycleCap (pathCycles pair (path pair true (begin pair 0) (ways 7))) ≤ lineAt numbers 0 .whole
-witness-whole-bounded = whole-bounded (moduleWords pair) 8 pair numbers witness-accepted 0 (omega arith) (ways 7) witness-keeps-counts-run
+witness-whole-bounded = whole-bounded (moduleWords pair) 10 pair numbers witness-accepted 0 (omega arith) (ways 7) witness-keeps-counts-run

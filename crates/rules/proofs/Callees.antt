@@ -3,29 +3,24 @@
 use mathlib.Core.Path.{_≡_, refl, ap, fun-ext}
 use mathlib.Core.Bool.{Bool, true, false, cond}
 use mathlib.Core.List.{List, []}
-use Prim.Native.Nat.{ℕ, _+_, _<_, _≤_, min}
+use Prim.Native.Nat.{ℕ, _+_, _<_, _≤_}
 use native.Mathlib.Omega.{arith}
 use borrow.Author.Tests.{ne-eqb}
 use lib.Dec.{eqb}
 use lib.ListN.{length, getD}
 use Rattle.rules.specs.Kinds as K
-use Rattle.rules.specs.Limits.{deepest, cycleCap, openText}
+use Rattle.rules.specs.Limits.{deepest, openText}
 use Rattle.rules.specs.Outcome.{Result, ok, no, answer}
 use Rattle.rules.specs.Ops.{kind, fieldA, figuresOf, opAt}
 use Rattle.rules.specs.Form.{Chunk}
 use Rattle.rules.specs.Reading.{extraAt}
 use Rattle.rules.specs.Rows.{Row}
 use Rattle.rules.specs.Count.{countOf}
-use Rattle.rules.specs.Cycles.{unbroken, Cost, textCharge, calleeWhole, chargeOf, rowCost, exactCost, cappedCost}
+use Rattle.rules.specs.Cycles.{unbroken, textCharge, calleeWhole, chargeOf, rowCost, exactCost}
 use Rattle.rules.specs.Order.{chunkAt}
 use Rattle.rules.specs.Sheet.{noLine, Sheet, sheetOf}
-use Rattle.rules.proofs.Capped.{capResult, chunk-capped}
 use Rattle.rules.proofs.Below.{Below, lessN, LessCost, walk-below}
 use Rattle.rules.proofs.SheetLines.{sheet-lines}
-
--- the same ending, and at most the cycles
-abbrev pub Fewer : Cost → Cost → Type 0
-Fewer k l = (k .cycles ≤ l .cycles) × (k .ends ≡ l .ends)
 
 -- an empty list charges nothing
 pub none-charged : (w : ℕ) → calleeWhole [] w ≡ 0
@@ -60,22 +55,14 @@ module _ (c : Chunk) (wholes : List ℕ) where
       go (ok n) = omega arith
       go (no n q) = refl
 
-  -- the uncapped walks, and those that stop at any cap
-  capped-below : (cap : ℕ) (x y : Result Cost) → Below LessCost x y → Below Fewer (capResult cap x) (capResult cap y)
-  capped-below cap (ok k) (ok l) h = (omega (arith, h .0), h .1)
-  capped-below cap (ok k) (no n p) h = absurd h
-  capped-below cap (no n p) y h = rw h
-
-  pub callees-add : (cap : ℕ) (r : Row) → Below Fewer (cappedCost cap c [] r) (cappedCost cap c wholes r)
-  callees-add cap r =
-      rw (chunk-capped cap c [] r, chunk-capped cap c wholes r)
-      (capped-below cap (exactCost c [] r) (exactCost c wholes r)
-      (walk-below (chargeOf c []) (chargeOf c wholes) (countOf c) (countOf c) charge-below count-below r deepest 0 0 unbroken unbroken (omega arith) tt))
+  pub callees-add : (r : Row) → Below LessCost (exactCost c [] r) (exactCost c wholes r)
+  callees-add r =
+      walk-below (chargeOf c []) (chargeOf c wholes) (countOf c) (countOf c) charge-below count-below r deepest 0 0 unbroken unbroken (omega arith) tt
 
   -- where no op is charged for a callee
-  pub callees-free : ((i : ℕ) → calleeWhole wholes (opAt (c .ops) i) ≡ 0) → (cap : ℕ) (r : Row) → cappedCost cap c wholes r ≡ cappedCost cap c [] r
-  callees-free free cap r =
-      ap (λ (f : ℕ → Result ℕ). rowCost (min cap) f (countOf c) r deepest 0 unbroken)
+  pub callees-free : ((i : ℕ) → calleeWhole wholes (opAt (c .ops) i) ≡ 0) → (r : Row) → exactCost c wholes r ≡ exactCost c [] r
+  callees-free free r =
+      ap (λ (f : ℕ → Result ℕ). rowCost (λ n. n) f (countOf c) r deepest 0 unbroken)
       (fun-ext same)
     where
       same : (i : ℕ) → chargeOf c wholes i ≡ chargeOf c [] i
@@ -85,5 +72,5 @@ module _ (c : Chunk) (wholes : List ℕ) where
 pub cycles-in-whole : (cs : List Chunk) (s : Sheet) → sheetOf cs ≡ answer s → (c : ℕ) → c < length cs → getD (s .lines) c noLine .cycles ≤ getD (s .lines) c noLine .whole
 cycles-in-whole cs s e c lt =
     let l = sheet-lines cs s e c lt in
-    let fewer : Below Fewer (ok (l .cost)) (ok (l .full)) = rw (l .walked, l .charged) at (callees-add (chunkAt cs c) (l .wholes) cycleCap (l .row)) in
-    rw (l .line) (fewer .0)
+    let less : Below LessCost (ok (l .cost)) (ok (l .full)) = rw (l .walked, l .charged) at (callees-add (chunkAt cs c) (l .wholes) (l .row)) in
+    rw (l .line) (omega (arith, less .0))

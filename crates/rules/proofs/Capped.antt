@@ -1,19 +1,20 @@
--- For any cap: capping each sum, product and greatest on the way gives what capping once at the end gives; and so for the whole cycle walk.
+-- For any cap: capping each sum, product and greatest on the way gives what capping once at the end gives; so for the whole cycle walk; and a walk under any cap
+-- above 4,294,967,295 has the answer's figure and its mark.
 -- Assumes nothing.
 use mathlib.Core.Path.{_≡_, refl, ap, _∙_}
 use mathlib.Core.Bool.{Bool, true, false, _&&_}
 use mathlib.Core.List.{List}
-use Prim.Native.Nat.{ℕ, zero, suc, _+_, _*_, min, max}
+use Prim.Native.Nat.{ℕ, zero, suc, _+_, _*_, _<_, min, max}
 use native.Mathlib.Nat.{mul-zero, mul-suc}
 use native.Mathlib.Omega.{arith}
-use borrow.Author.Tests.{leb-true, leb-false}
-use lib.Dec.{leb}
+use borrow.Author.Tests.{leb-true, leb-false, ltb-true, ltb-false, lt-ltb, le-ltb}
+use lib.Dec.{leb, ltb}
 use Rattle.rules.specs.Outcome.{Result, ok, no, andThen}
 use Rattle.rules.specs.Form.{Chunk}
 use Rattle.rules.specs.Rows.{Row, end, step, stop, leave, leaveIf, ifThen, ifElse, loop}
 use Rattle.rules.specs.Count.{countOf}
-use Rattle.rules.specs.Limits.{deepest}
-use Rattle.rules.specs.Cycles.{Breaks, unbroken, costliest, noteBreak, breakCost, Cost, costs, inner, unlessEnds, onePass, passesCost, rowCost, chargeOf, exactCost, cappedCost}
+use Rattle.rules.specs.Limits.{deepest, cycleCap}
+use Rattle.rules.specs.Cycles.{Breaks, unbroken, costliest, noteBreak, breakCost, Cost, costs, inner, unlessEnds, onePass, passesCost, rowCost, chargeOf, exactCost, cappedCost, cyclesOf, rowCycles}
 
 -- sums, products by a count, greatest
 pub cap-sum : (cap a b : ℕ) → min cap (min cap a + min cap b) ≡ min cap (a + b)
@@ -137,7 +138,18 @@ chunk-capped cap c wholes r =
     let z : min cap 0 ≡ 0 = omega arith in
     rw z at (walk-capped cap (chargeOf c wholes) (countOf c) r deepest 0 unbroken)
 
--- a capped answer comes from an exact one, of which it is the lesser with the cap
-pub capped-from : (cap : ℕ) (r : Result Cost) (k : Cost) → capResult cap r ≡ ok k → (e : Cost) × (r ≡ ok e) × (k .cycles ≡ min cap (e .cycles))
-capped-from cap (ok e) k h = (e, refl, cc)
-capped-from cap (no n p) k h = absurd (let z : _≡_ {A = ℕ} 0 1 = cc in omega arith)
+-- a number that was cut at a wider cap is cut at a cap to the same figure, and is greater than that cap exactly if the number is
+pub cut-wider : (cap wider n : ℕ) → cap < wider → (min cap (min wider n) ≡ min cap n) × (ltb cap (min wider n) ≡ ltb cap n)
+cut-wider cap wider n h = (omega arith, go (ltb cap n) refl)
+  where
+    go : (b : Bool) → ltb cap n ≡ b → ltb cap (min wider n) ≡ b
+    go true e = lt-ltb cap (min wider n) (omega (arith, ltb-true cap n e))
+    go false e = le-ltb cap (min wider n) (omega (arith, ltb-false cap n e))
+
+-- so the walk under any wider cap gives the answer of the cycle walk: figure, ending and mark
+pub wider-told : (wider : ℕ) → cycleCap < wider → (c : Chunk) (wholes : List ℕ) (r : Row) → andThen (cappedCost wider c wholes r) (λ k. ok (cyclesOf k)) ≡ rowCycles c wholes r
+wider-told wider h c wholes r = ap (λ (x : Result Cost). andThen x (λ k. ok (cyclesOf k))) (chunk-capped wider c wholes r) ∙ go (exactCost c wholes r)
+  where
+    go : (x : Result Cost) → andThen (capResult wider x) (λ k. ok (cyclesOf k)) ≡ andThen x (λ k. ok (cyclesOf k))
+    go (ok k) = let t = cut-wider cycleCap wider (k .cycles) h in rw (t .0, t .1)
+    go (no n p) = refl

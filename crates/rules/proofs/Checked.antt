@@ -1,4 +1,4 @@
--- The cases of specs/Cases, specs/CalleeCases and specs/WritingCases, each list as one checked list. Assumes nothing.
+-- The cases of specs/Cases, specs/CalleeCases, specs/MarkCases and specs/WritingCases, each list as one checked list. Assumes nothing.
 use mathlib.Core.Path.{refl}
 use mathlib.Core.List.{flatMap}
 use Rattle.rules.specs.Ops.{inGroups}
@@ -8,11 +8,12 @@ use Rattle.rules.specs.Count.{lastSet, arrayLength, neverSets}
 use Rattle.rules.specs.Cycles.{rowCost}
 use Rattle.rules.specs.Stack.{rowHeight}
 use Rattle.rules.specs.Order.{member, calleesIn, visitEach, visit, upFrom}
-use Rattle.rules.specs.Sheet.{linesIn}
+use Rattle.rules.specs.Sheet.{linesIn, trayNumbers}
 use Rattle.rules.specs.Text.{wordsOf, bytesIn, digits, linesText}
 use Rattle.rules.specs.Writing.{trimmed, every, heldConstants, heldOps, held}
 use Rattle.rules.specs.Cases.{AllHold, documented, settled, levelled, strayed}
 use Rattle.rules.specs.CalleeCases.{shared}
+use Rattle.rules.specs.MarkCases.{marked}
 use Rattle.rules.specs.WritingCases.{shelved}
 
 -- document 01's P cases
@@ -38,7 +39,12 @@ strayed-hold = (refl, (refl, (refl, (refl, (refl, (refl, (refl, (refl, (refl, (r
 -- charged callees
 pub shared-hold : AllHold shared
 unfolding flatMap inGroups brokenAt takeWhile dropWhile constantsOf extrasOf chunksOf parse firstOf firstBackward strayBreak lastSet arrayLength neverSets rowCost rowHeight member calleesIn visitEach visit upFrom linesIn wordsOf digits linesText bytesIn
-shared-hold = (refl, (refl, (refl, (refl, (refl, (refl, (refl, (refl, (refl, (refl, (refl, (refl, (refl, (refl, tt))))))))))))))
+shared-hold = (refl, (refl, (refl, (refl, (refl, (refl, (refl, (refl, (refl, (refl, (refl, (refl, (refl, tt)))))))))))))
+
+-- which figures are marked
+pub marked-hold : AllHold marked
+unfolding flatMap inGroups brokenAt takeWhile dropWhile constantsOf extrasOf chunksOf parse firstOf firstBackward strayBreak lastSet arrayLength neverSets rowCost rowHeight member calleesIn visitEach visit upFrom linesIn trayNumbers wordsOf digits linesText bytesIn
+marked-hold = (refl, (refl, (refl, (refl, (refl, (refl, (refl, (refl, (refl, (refl, (refl, (refl, (refl, (refl, (refl, (refl, (refl, (refl, (refl, (refl, (refl, (refl, (refl, tt)))))))))))))))))))))))
 
 -- the writer
 pub shelved-hold : AllHold shelved

@@ -1,5 +1,5 @@
--- Request 2.1 leaves the rest of the sheet as it was: the refusals, the order, and of each line the cycles, peak and bytes are those of document 01's sheet,
--- which works out no whole figure. Assumes nothing.
+-- Requests 2.1 and 2.5 leave the rest of the sheet as it was: the refusals, the order, and of each line the cycles, peak and bytes are those of document 01's
+-- sheet, which works out no whole figure, has no mark, and whose sums and products all stop at the cap. Assumes nothing.
 use mathlib.Core.Path.{_≡_, refl, sym, ap, _∙_}
 use mathlib.Core.List.{List, [], _∷_, map}
 use Prim.Native.Nat.{ℕ}
@@ -8,15 +8,16 @@ use Rattle.rules.specs.Limits.{cycleCap}
 use Rattle.rules.specs.Outcome.{Result, ok, no, Outcome, answer, refused, andThen, followedBy, inChunk}
 use Rattle.rules.specs.Form.{Chunk}
 use Rattle.rules.specs.Rows.{Row, chunkRow}
-use Rattle.rules.specs.Cycles.{Cost, cappedCost}
+use Rattle.rules.specs.Cycles.{Cost, exactCost, cappedCost, cyclesOf, rowCycles}
 use Rattle.rules.specs.Stack.{Stack, rowStack}
 use Rattle.rules.specs.Order.{callOrder, chunkAt}
 use Rattle.rules.specs.Sheet.{Line, lineOf, chunkLine, noLine, bytesList, wholeList, linesIn, Sheet, sheetOf, ringOutcome}
 use Rattle.rules.proofs.Mapped.{map-alike, map-set}
-use Rattle.rules.proofs.Below.{Below}
-use Rattle.rules.proofs.Callees.{Fewer, callees-add}
+use Rattle.rules.proofs.Capped.{capCost, capResult, chunk-capped}
+use Rattle.rules.proofs.Below.{Below, LessCost}
+use Rattle.rules.proofs.Callees.{callees-add}
 
--- a line, the lines and the sheet of document 01, without whole figures
+-- a line, the lines and the sheet of document 01, without whole figures and marks
 pub record BaseLine : Type 0 where
   pub cycles : ℕ
   pub peak : ℕ
@@ -53,21 +54,25 @@ restOf s = record { order = s .order; lines = map rest (s .lines) }
 line-stays : (c : Chunk) (callees wholes : List ℕ) → andThen (chunkLine c callees wholes) (λ l. ok (rest l)) ≡ lineWithout c callees
 line-stays c callees wholes = by-row (chunkRow c)
   where
-    by-stack : (k w : Cost) (x : Result Stack) → andThen (andThen x (λ s. ok (lineOf k w s))) (λ l. ok (rest l)) ≡ andThen x (λ s. ok (baseOf k s))
+    by-stack : (k w : Cost) (x : Result Stack)
+        → andThen (andThen x (λ s. ok (lineOf (cyclesOf k) (cyclesOf w) s))) (λ l. ok (rest l)) ≡ andThen x (λ s. ok (baseOf (capCost cycleCap k) s))
     by-stack k w (ok s) = refl
     by-stack k w (no n p) = refl
 
-    by-walks : (y : Result Stack) (x w : Result Cost) → Below Fewer x w
-        → andThen (andThen x (λ k. andThen w (λ f. andThen y (λ s. ok (lineOf k f s))))) (λ l. ok (rest l)) ≡ andThen x (λ k. andThen y (λ s. ok (baseOf k s)))
+    by-walks : (y : Result Stack) (x w : Result Cost) → Below LessCost x w
+        → andThen (andThen (andThen x (λ k. ok (cyclesOf k))) (λ k. andThen (andThen w (λ f. ok (cyclesOf f))) (λ f. andThen y (λ s. ok (lineOf k f s)))))
+        (λ l. ok (rest l))
+        ≡ andThen (capResult cycleCap x) (λ k. andThen y (λ s. ok (baseOf k s)))
     by-walks y (ok k) (ok w) h = by-stack k w y
     by-walks y (ok k) (no n p) h = absurd h
     by-walks y (no n p) w h = refl
 
     by-row : (x : Result Row)
-        → andThen (andThen x (λ r. andThen (cappedCost cycleCap c [] r) (λ k. andThen (cappedCost cycleCap c wholes r)
+        → andThen (andThen x (λ r. andThen (rowCycles c [] r) (λ k. andThen (rowCycles c wholes r)
         (λ w. andThen (rowStack c callees r) (λ s. ok (lineOf k w s)))))) (λ l. ok (rest l))
         ≡ andThen x (λ r. andThen (cappedCost cycleCap c [] r) (λ k. andThen (rowStack c callees r) (λ s. ok (baseOf k s))))
-    by-row (ok r) = by-walks (rowStack c callees r) (cappedCost cycleCap c [] r) (cappedCost cycleCap c wholes r) (callees-add c wholes cycleCap r)
+    by-row (ok r) =
+        rw (chunk-capped cycleCap c [] r) (by-walks (rowStack c callees r) (exactCost c [] r) (exactCost c wholes r) (callees-add c wholes r))
     by-row (no n p) = refl
 
 rest-bytes : (ls : List Line) → map (λ (m : BaseLine). m .bytes) (map rest ls) ≡ bytesList ls

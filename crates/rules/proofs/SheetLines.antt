@@ -11,8 +11,7 @@ use lib.Seq.{getD-set-same, getD-set-other}
 use Rattle.rules.specs.Outcome.{ok, answer, followedBy, inChunk, demand}
 use Rattle.rules.specs.Form.{Chunk}
 use Rattle.rules.specs.Rows.{Row, chunkRow}
-use Rattle.rules.specs.Limits.{cycleCap}
-use Rattle.rules.specs.Cycles.{Cost, cappedCost}
+use Rattle.rules.specs.Cycles.{Cost, exactCost, cyclesOf, rowCycles}
 use Rattle.rules.specs.Stack.{Stack, rowStack}
 use Rattle.rules.specs.Order.{Listing, listed, ring, callOrder, chunkAt, member, Calls, Distinct}
 use Rattle.rules.specs.Sheet.{lineWidth, Line, lineOf, chunkLine, noLine, bytesList, wholeList, linesIn, Sheet, sheetOf, ringOutcome}
@@ -26,14 +25,14 @@ pub record LineOf (cs : List Chunk) (lines : List Line) (c : ℕ) : Type 0 where
   pub row : Row
   pub is-row : chunkRow (chunkAt cs c) ≡ ok row
   pub cost : Cost
-  pub walked : cappedCost cycleCap (chunkAt cs c) [] row ≡ ok cost
+  pub walked : exactCost (chunkAt cs c) [] row ≡ ok cost
   pub wholes : List ℕ
   pub full : Cost
-  pub charged : cappedCost cycleCap (chunkAt cs c) wholes row ≡ ok full
+  pub charged : exactCost (chunkAt cs c) wholes row ≡ ok full
   pub callees : List ℕ
   pub stack : Stack
   pub climbed : rowStack (chunkAt cs c) callees row ≡ ok stack
-  pub line : getD lines c noLine ≡ lineOf cost full stack
+  pub line : getD lines c noLine ≡ lineOf (cyclesOf cost) (cyclesOf full) stack
   pub known : (k : ℕ) → Calls cs c k → getD callees k 0 ≡ getD lines k noLine .bytes
   pub outside : (k : ℕ) → length cs ≤ k → getD callees k 0 ≡ 0
   pub known-whole : (k : ℕ) → Calls cs c k → getD wholes k 0 ≡ getD lines k noLine .whole
@@ -98,21 +97,23 @@ line-parts : (cs : List Chunk) (lines mid : List Line) (c : ℕ) → length mid 
     → ((k : ℕ) → Calls cs c k → getD mid k noLine ≡ getD lines k noLine) → LineOf cs lines c
 line-parts cs lines mid c size e same =
     let a = from-ok (chunkRow (chunkAt cs c)) _ e in
-    let b = from-ok (cappedCost cycleCap (chunkAt cs c) [] (a .0)) _ (a .2) in
-    let w = from-ok (cappedCost cycleCap (chunkAt cs c) (wholeList mid) (a .0)) _ (b .2) in
+    let b = from-ok (rowCycles (chunkAt cs c) [] (a .0)) _ (a .2) in
+    let w = from-ok (rowCycles (chunkAt cs c) (wholeList mid) (a .0)) _ (b .2) in
     let s = from-ok (rowStack (chunkAt cs c) (bytesList mid) (a .0)) _ (w .2) in
+    let k = from-ok (exactCost (chunkAt cs c) [] (a .0)) _ (b .1) in
+    let f = from-ok (exactCost (chunkAt cs c) (wholeList mid) (a .0)) _ (w .1) in
     record {
       row = a .0;
       is-row = a .1;
-      cost = b .0;
-      walked = b .1;
+      cost = k .0;
+      walked = k .1;
       wholes = wholeList mid;
-      full = w .0;
-      charged = w .1;
+      full = f .0;
+      charged = f .1;
       callees = bytesList mid;
       stack = s .0;
       climbed = s .1;
-      line = cc (s .2);
+      line = cc (s .2, k .2, f .2);
       known = λ k calls. List·getD-map (λ (l : Line). l .bytes) mid k noLine ∙ ap (λ (l : Line). l .bytes) (same k calls);
       outside = λ k h. List·getD-map (λ (l : Line). l .bytes) mid k noLine
           ∙ ap (λ (l : Line). l .bytes) (List·getD-eq-default mid noLine (omega arith));

@@ -13,14 +13,12 @@ use Rattle.rules.specs.Limits.{cycleCap}
 use Rattle.rules.specs.Outcome.{answer}
 use Rattle.rules.specs.Form.{Chunk}
 use Rattle.rules.specs.Rows.{calls, shapeOf, Plain}
-use Rattle.rules.specs.Cycles.{exactCost}
 use Rattle.rules.specs.Order.{callOrder, chunkAt, Calls, Ordered}
 use Rattle.rules.specs.Sheet.{Line, noLine, Sheet, sheetOf, ringOutcome}
 use Rattle.rules.specs.Paths.{Entry, Frame, rangeAt, movedTo, returned, go, begin, path, opCycles}
 use Rattle.rules.specs.Claims.{WholeBounded}
 use Rattle.rules.proofs.Answers.{from-answer}
 use Rattle.rules.proofs.Shapes.{shape-tells, by-plain}
-use Rattle.rules.proofs.Capped.{capped-from, chunk-capped}
 use Rattle.rules.proofs.Callees.{call-charged}
 use Rattle.rules.proofs.CallOrder.{order-sound}
 use Rattle.rules.proofs.SheetLines.{LineOf, split, from-listing, sheet-lines, accepted-sheet}
@@ -77,12 +75,10 @@ module _ (cs : List Chunk) (s : Sheet) (answered : sheetOf cs ≡ answer s) wher
 
     line-bounded : Bounded c
     line-bounded gs z back d b ways keep =
-        let (e, exact, cut) = capped-from cycleCap (exactCost (chunkAt cs c) (l .wholes) (l .row)) (l .full)
-        (rw (chunk-capped cycleCap (chunkAt cs c) (l .wholes) (l .row)) at (l .charged)) in
-        let safe =
-        chunk-safe cs true cycleCap fee c (l .row) e (l .is-row) (chunk-walked (chunkAt cs c) (l .wholes) (l .row) e exact) whole-charged gs z back d b ways keep in
+        let walked = chunk-walked (chunkAt cs c) (l .wholes) (l .row) (l .full) (l .charged) in
+        let safe = chunk-safe cs true cycleCap fee c (l .row) (l .full) (l .is-row) walked whole-charged gs z back d b ways keep in
         let figure = ap (λ (x : Line). x .whole) (l .line) in
-        omega (arith, safe, cut, figure)
+        omega (arith, safe, figure)
 
   -- along the call order: at most n chunks stand before c
   along : (order : List ℕ) → Ordered cs order → (n : ℕ) (xs ys : List ℕ) (c : ℕ) → order ≡ xs ++ (c ∷ ys) → length xs < n → c < length cs → Bounded c

@@ -61,7 +61,7 @@ abbrev pub twoCalls : ℕ → List ℕ
 twoCalls zero = 0 ∷ []
 twoCalls (suc n) = 20 ∷ twoCalls n
 
--- Request 2.1 sentence by sentence (docs/DECISIONS.md has the readings by number): which figure, which Calls, callees outside, the cap, open text, blocks, tray
+-- Request 2.1 sentence by sentence (docs/DECISIONS.md has the readings by number): which figure, which Calls, callees outside, the cap, open text, blocks
 abbrev pub shared : List Case
 shared =
     record {
@@ -115,9 +115,5 @@ shared =
           (caller (op K.Const 0 ∷ op K.If 4 ∷ op K.Call 1 ∷ op K.Else 7 ∷ op K.SetDataIndexed 0 ∷ op K.SetDataIndexed 0 ∷ op K.SetDataIndexed 0 ∷ op K.EndIf 0 ∷ op K.Return 0 ∷ [])
           ∷ caller (op K.Call 9 ∷ op K.Call 9 ∷ []) ∷ [])
           ≡ are (29 ∷ 20 ∷ []) (36 ∷ 20 ∷ []);
-    }
-    ∷ record {
-      name = "four numbers a chunk: chunk L with a tray of 3";
-      claim = sheetOutcome (alone (chunkL (pos 0) (pos 3) (pos 1))) 3 ≡ refused 13 0 0;
     }
     ∷ []

@@ -54,9 +54,15 @@ chunkL start stop step = headerTo 15 start stop step
 abbrev pub alone : Chunk → List ℕ
 alone c = moduleWords (c ∷ [])
 
--- the sheet of a module of one chunk, whose cycles are its whole figure: it calls no chunk of the module
+-- the sheet of a module of one chunk, whose cycles are its whole figure: it calls no chunk of the module. Its cycles are exact, or 2.5: cut
+abbrev pub oneLine : Bool → ℕ → ℕ → ℕ → Outcome Sheet
+oneLine m c p b = answer (record { order = 0 ∷ []; lines = record { cycles = c; cut = m; peak = p; bytes = b; whole = c } ∷ [] })
+
 abbrev pub one : ℕ → ℕ → ℕ → Outcome Sheet
-one c p b = answer (record { order = 0 ∷ []; lines = record { cycles = c; peak = p; bytes = b; whole = c } ∷ [] })
+one c p b = oneLine false c p b
+
+abbrev pub oneCut : ℕ → ℕ → ℕ → Outcome Sheet
+oneCut c p b = oneLine true c p b
 
 abbrev pub L : ℤ → Outcome Sheet
 L stop = sheetOutcome (alone (chunkL (pos 0) stop (pos 1))) lineWidth
@@ -80,9 +86,9 @@ openTextBehind = func 0 [] (op K.Return 0 ∷ op K.Yield 0 ∷ []) (0 ∷ M.open
 abbrev pub oneCall : ℕ → Chunk
 oneCall locals = func locals [] (op K.Call 0 ∷ []) []
 
--- what the walks of one chunk answer
+-- what the walks of one chunk answer; the cycles exact
 abbrev pub cycles : ℕ → Bool → Outcome Cycles
-cycles c e = answer (record { cycles = c; ends = e })
+cycles c e = answer (record { cycles = c; ends = e; cut = false })
 
 abbrev pub stack : ℕ → Delta → ℕ → Outcome Stack
 stack p d b = answer (record { peak = p; delta = d; bytes = b })
@@ -112,7 +118,7 @@ documented =
     }
     ∷ record { name = "constant 1 made 0: 12 cycles"; claim = L (pos 0) ≡ one 12 3 160 }
     ∷ record { name = "made -1 (end below start): 12"; claim = L (negsuc 0) ≡ one 12 3 160 }
-    ∷ record { name = "made 4,294,967,295: cycles 4,294,967,295"; claim = L (pos 4294967295) ≡ one 4294967295 3 160 }
+    ∷ record { name = "made 4,294,967,295: cycles 4,294,967,295"; claim = L (pos 4294967295) ≡ oneCut 4294967295 3 160 }
     ∷ record { name = "made 4,294,967,296: refusal 9 at 4"; claim = L (pos 4294967296) ≡ refused 9 0 4 }
     ∷ record {
       name = "start -1, end 2^63-1: the subtraction leaves 64 bits, refusal 9";

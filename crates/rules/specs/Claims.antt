@@ -1,16 +1,19 @@
--- Demand 3 as types: what a sheet's lines say of every path; and what request 2.4's place is, by positions. proofs/Demand, proofs/WholeBound,
--- proofs/StackBound and proofs/Strays have the proofs.
+-- Demand 3 as types: what a sheet's lines say of every path; what request 2.5's mark says of a line's cycles; and what request 2.4's place is, by positions.
+-- proofs/Demand, proofs/WholeBound, proofs/StackBound and proofs/Strays have the proofs.
 use mathlib.Core.Path.{_≡_}
 use mathlib.Core.Bool.{true, false}
-use mathlib.Core.List.{List}
+use mathlib.Core.List.{List, []}
 use mathlib.Core.Logic.{_⊎_}
 use Prim.Native.Nat.{ℕ, _<_, _≤_, min}
+use lib.Dec.{ltb}
 use lib.ListN.{length, getD}
 use Rattle.rules.specs.Outcome.{ok, answer, found, nothing}
 use Rattle.rules.specs.Ops.{fieldA, opAt}
 use Rattle.rules.specs.Form.{Chunk}
 use Rattle.rules.specs.Limits.{cycleCap}
-use Rattle.rules.specs.Rows.{loopTo, breaks, breaksIf, shapeOf, Row, Range, rowOf, strayBreak}
+use Rattle.rules.specs.Rows.{loopTo, breaks, breaksIf, shapeOf, Row, Range, rowOf, chunkRow, strayBreak}
+use Rattle.rules.specs.Cycles.{Cost, exactCost}
+use Rattle.rules.specs.Order.{chunkAt}
 use Rattle.rules.specs.Sheet.{Line, noLine, Sheet, readModule, sheetOutcome}
 use Rattle.rules.specs.Paths.{Way, begin, path, pathCycles, pathBytes, KeepsCounts, KeepsDepths}
 
@@ -45,6 +48,14 @@ StackBounded =
     (words : List ℕ) (room : ℕ) (cs : List Chunk) (s : Sheet) → Accepted words room cs s → (c : ℕ) → c < length cs
     → (ways : List Way) → KeepsDepths cs true (begin cs c) ways
     → pathBytes cs c (path cs true (begin cs c) ways) ≤ lineAt s c .bytes
+
+-- 2.5: "Each cycle walk outcome and each sheet row is to carry a yes or no that is yes exactly if the uncapped figure is greater than 4,294,967,295." Of an
+-- accepted module's line: the walk with nothing cut answers, the cycles are its figure up to the cap, and the mark says whether it is greater.
+abbrev pub MarkExact : Type 0
+MarkExact =
+    (words : List ℕ) (room : ℕ) (cs : List Chunk) (s : Sheet) → Accepted words room cs s → (c : ℕ) → c < length cs
+    → (r : Row) × (e : Cost) × (chunkRow (chunkAt cs c) ≡ ok r) × (exactCost (chunkAt cs c) [] r ≡ ok e)
+    × (lineAt s c .cycles ≡ min cycleCap (e .cycles)) × (lineAt s c .cut ≡ ltb cycleCap (e .cycles))
 
 -- 2.4: "the operand of Break and BreakIf must be the target of the innermost Loop around it", said of positions and not of a tree: the op at i of the
 -- range g breaks this. A Loop is around the positions behind it and before its target.

@@ -2,7 +2,7 @@
 use mathlib.Core.Bool.{Bool, true, false, cond, _&&_}
 use mathlib.Core.List.{List, []}
 use Prim.Native.Nat.{ℕ, zero, suc, _+_, _*_, min, max}
-use lib.Dec.{eqb}
+use lib.Dec.{eqb, ltb}
 use lib.ListN.{getD}
 use Rattle.rules.specs.Kinds as K
 use Rattle.rules.specs.Limits.{deepest, cycleCap, openText}
@@ -46,8 +46,7 @@ abbrev pub unlessEnds : Bool → ℕ → Breaks → (ℕ → Breaks → Result C
 unlessEnds true cost breaks rest = ok (costs cost true breaks)
 unlessEnds false cost breaks rest = rest cost breaks
 
--- The walk. `cut` is what is done to each sum and product: nothing for the uncapped figure, "all sums and products stop at
--- 4,294,967,295" for the sheet's. `charge` and `count` give by position what an op costs and how often a loop passes, or a refusal.
+-- The walk. `cut` is what is done to each sum and product: nothing for the uncapped figure, the minimum with a cap for one that stops there. `charge` and `count` give by position what an op costs and how often a loop passes, or a refusal.
 module _ (cut : ℕ → ℕ) (charge count : ℕ → Result ℕ) where
   -- a cost and one op's charge more
   abbrev pub plus : ℕ → ℕ → ℕ
@@ -113,21 +112,28 @@ chargeOf c wholes i =
     textCharge (eqb (extraAt (c .extras) i) openText) i
     (figuresOf (opAt (c .ops) i) .cycles + extraAt (c .extras) i + calleeWhole wholes (opAt (c .ops) i))
 
--- the uncapped figure, and the one that stops at a cap, over the whole figures of the callees
+-- the uncapped figure, and the one that stops at a cap, over the whole figures of the callees. For any cap, to stop on the way is to cut the uncapped figure
+-- once at the end (proofs/Capped).
 abbrev pub exactCost : Chunk → List ℕ → Row → Result Cost
 exactCost c wholes r = rowCost (λ n. n) (chargeOf c wholes) (countOf c) r deepest 0 unbroken
 
 abbrev pub cappedCost : ℕ → Chunk → List ℕ → Row → Result Cost
 cappedCost cap c wholes r = rowCost (min cap) (chargeOf c wholes) (countOf c) r deepest 0 unbroken
 
--- the answer of the cycle walk: the cycles, and whether the row ends. No break leads out of a range, so none is left to tell.
+-- the answer of the cycle walk: the cycles, whether the row ends, and 2.5's mark. No break leads out of a range, so none is left to tell.
 pub record Cycles : Type 0 where
   pub cycles : ℕ
   pub ends : Bool
+  pub cut : Bool
 
+-- "all sums and products stop at 4,294,967,295", and 2.5: "a yes or no that is yes exactly if the uncapped figure is greater than 4,294,967,295"
 abbrev pub cyclesOf : Cost → Cycles
-cyclesOf k = record { cycles = k .cycles; ends = k .ends }
+cyclesOf k = record { cycles = min cycleCap (k .cycles); ends = k .ends; cut = ltb cycleCap (k .cycles) }
 
--- the cycle walk of a chunk: 3, 4, 5, 6, 15, then 7, 8, 9 as the walk meets them
+-- the cycle walk of a row over the whole figures of the callees: 7, 8, 9 as the walk meets them
+abbrev pub rowCycles : Chunk → List ℕ → Row → Result Cycles
+rowCycles c wholes r = andThen (exactCost c wholes r) (λ k. ok (cyclesOf k))
+
+-- the cycle walk of a chunk: 3, 4, 5, 6, 15, then those of its row, no callee charged
 abbrev pub chunkCycles : Chunk → Result Cycles
-chunkCycles c = andThen (chunkRow c) (λ r. andThen (cappedCost cycleCap c [] r) (λ k. ok (cyclesOf k)))
+chunkCycles c = andThen (chunkRow c) (λ r. rowCycles c [] r)

@@ -16,6 +16,7 @@ pub mod Writing
 pub mod Shelf
 pub mod Cases
 pub mod CalleeCases
+pub mod MarkCases
 pub mod WritingCases
 pub mod Paths
 pub mod Claims

@@ -1,16 +1,17 @@
 -- "Refusing": what each entry point answers, its tests in document 01's order, and what it leaves in a lent tray.
+use mathlib.Core.Bool.{Bool, true, false}
 use mathlib.Core.List.{List, [], _∷_, _++_, map}
 use Prim.Native.Nat.{ℕ, _*_}
 use lib.Dec.{leb, ltb}
 use lib.ListN.{length, set, drop, replicate}
-use Rattle.rules.specs.Limits.{mostChunks, cycleCap}
+use Rattle.rules.specs.Limits.{mostChunks}
 use Rattle.rules.specs.Numbers as N
 use Rattle.rules.specs.Outcome.{Result, ok, Outcome, answer, refused, andThen, followedBy, inChunk, demand}
 use Rattle.rules.specs.Form.{Chunk}
 use Rattle.rules.specs.Reading.{read}
 use Rattle.rules.specs.Rows.{chunkRow}
 use Rattle.rules.specs.Count.{countOf}
-use Rattle.rules.specs.Cycles.{Cost, Cycles, chunkCycles, cappedCost}
+use Rattle.rules.specs.Cycles.{Cycles, rowCycles, chunkCycles}
 use Rattle.rules.specs.Stack.{Stack, chunkStack, rowStack}
 use Rattle.rules.specs.Order.{Listing, listed, ring, callOrder, chunkAt}
 
@@ -61,26 +62,27 @@ abbrev pub orderTray : Outcome (List ℕ) → List ℕ → List ℕ
 orderTray (answer order) tray = order ++ drop (length order) tray
 orderTray (refused n c p) tray = tray
 
--- a chunk's row of the sheet: cycles, peak in slots, stack bytes, and 2.1's "fifth printed field, `whole`": the cycles with callees
+-- a chunk's row of the sheet: cycles, 2.5's mark of the cycles, peak in slots, stack bytes, and 2.1's "fifth printed field, `whole`": the cycles with
+-- callees. 2.5: "`whole` has no mark"
 pub record Line : Type 0 where
   pub cycles : ℕ
+  pub cut : Bool
   pub peak : ℕ
   pub bytes : ℕ
   pub whole : ℕ
 
-abbrev pub lineOf : Cost → Cost → Stack → Line
-lineOf c w s = record { cycles = c .cycles; peak = s .peak; bytes = s .bytes; whole = w .cycles }
+abbrev pub lineOf : Cycles → Cycles → Stack → Line
+lineOf c w s = record { cycles = c .cycles; cut = c .cut; peak = s .peak; bytes = s .bytes; whole = w .cycles }
 
 -- one chunk of a module, over the stack bytes and the whole figures of its callees: 3, 4, 5, 6, 15, the cycle walk's 7 to 9, the stack walk's, 11. The walk
 -- with callees charged refuses where the cycle walk does and nowhere else, and nothing else of the sheet changes (proofs/RestStays).
 abbrev pub chunkLine : Chunk → List ℕ → List ℕ → Result Line
 chunkLine c callees wholes =
     andThen (chunkRow c)
-    (λ r. andThen (cappedCost cycleCap c [] r)
-    (λ k. andThen (cappedCost cycleCap c wholes r) (λ w. andThen (rowStack c callees r) (λ s. ok (lineOf k w s)))))
+    (λ r. andThen (rowCycles c [] r) (λ k. andThen (rowCycles c wholes r) (λ w. andThen (rowStack c callees r) (λ s. ok (lineOf k w s)))))
 
 abbrev pub noLine : Line
-noLine = record { cycles = 0; peak = 0; bytes = 0; whole = 0 }
+noLine = record { cycles = 0; cut = false; peak = 0; bytes = 0; whole = 0 }
 
 -- the stack bytes by chunk index, 0 for a chunk that has no line yet; and the whole figures
 abbrev pub bytesList : List Line → List ℕ
@@ -106,23 +108,31 @@ sheetOf cs =
     (λ order. followedBy (linesIn order cs (replicate (length cs) noLine))
     (λ lines. answer (record { order = order; lines = lines })))
 
--- "(cycles, peak, bytes, by chunk index)", and 2.1: "The tray holds four numbers a chunk, `whole` last": the numbers of a line in the tray, how many
--- they are, and room for 256 lines
+-- 2.5: "with the mark as 0 or 1"
+abbrev pub markNumber : Bool → ℕ
+markNumber true = 1
+markNumber false = 0
+
+-- 2.5: "The tray grows to five numbers a chunk: cycles, its mark, peak, bytes, whole": the numbers of a line in the tray, how many they are, and room for
+-- 256 lines
 abbrev pub lineNumbers : Line → List ℕ
-lineNumbers l = l .cycles ∷ l .peak ∷ l .bytes ∷ l .whole ∷ []
+lineNumbers l = l .cycles ∷ markNumber (l .cut) ∷ l .peak ∷ l .bytes ∷ l .whole ∷ []
 
 abbrev pub lineWidth : ℕ
-lineWidth = 4
+lineWidth = 5
 
--- the places of the cycles, of the bytes and of the whole figure among them
+-- the places of the cycles, of their mark, of the bytes and of the whole figure among them
 abbrev pub cyclesPlace : ℕ
 cyclesPlace = 0
 
+abbrev pub markPlace : ℕ
+markPlace = 1
+
 abbrev pub bytesPlace : ℕ
-bytesPlace = 2
+bytesPlace = 3
 
 abbrev pub wholePlace : ℕ
-wholePlace = 3
+wholePlace = 4
 
 abbrev pub sheetRoom : ℕ
 sheetRoom = mostChunks * lineWidth

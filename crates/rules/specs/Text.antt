@@ -9,7 +9,7 @@ use lib.ListN.{length, getD}
 use Rattle.rules.specs.Limits.{mostChunks}
 use Rattle.rules.specs.Numbers as N
 use Rattle.rules.specs.Outcome.{Outcome, answer, refused}
-use Rattle.rules.specs.Sheet.{Line, noLine, Sheet, sheetOutcome, lineWidth, sheetRoom}
+use Rattle.rules.specs.Sheet.{Line, noLine, Sheet, sheetOutcome, sheetRoom}
 
 -- "reads little-endian words"
 unfoldable pub wordsOf : List ℕ → List ℕ
@@ -42,6 +42,9 @@ space = 32
 abbrev pub newline : ℕ
 newline = 10
 
+abbrev pub plusSign : ℕ
+plusSign = 43
+
 -- n bytes of a quoted text from place i on; all of them
 abbrev pub textFrom : ℕ → String → ℕ → List ℕ
 textFrom zero s i = []
@@ -57,15 +60,20 @@ heading = textOf "chunk cycles peak bytes whole\n"
 abbrev pub refusedWord : List ℕ
 refusedWord = textOf "refused"
 
+-- 2.5: "A cut cycles figure is printed with a plus sign behind it."
+abbrev pub plusIf : Bool → List ℕ
+plusIf true = plusSign ∷ []
+plusIf false = []
+
 -- "Chunk index, cycles, peak in slots, stack bytes", and 2.1's fifth field
 abbrev pub lineText : ℕ → Line → List ℕ
 lineText c l =
-    decimal c ++ (space ∷ decimal (l .cycles) ++ (space ∷ decimal (l .peak) ++ (space ∷ decimal (l .bytes)
-    ++ (space ∷ decimal (l .whole) ++ (newline ∷ [])))))
+    decimal c ++ (space ∷ decimal (l .cycles) ++ (plusIf (l .cut) ++ (space ∷ decimal (l .peak) ++ (space ∷ decimal (l .bytes)
+    ++ (space ∷ decimal (l .whole) ++ (newline ∷ []))))))
 
--- the most bytes of a line: its chunk and its numbers, each of at most 10 digits and one byte behind them; and of a heading and 256 lines
+-- the most bytes of a line: its five fields, each of at most 10 digits and one byte behind them, and a plus sign; and of a heading and 256 lines
 abbrev pub lineMost : ℕ
-lineMost = 11 * (1 + lineWidth)
+lineMost = 11 * 5 + 1
 
 abbrev pub sheetMost : ℕ
 sheetMost = length heading + mostChunks * lineMost

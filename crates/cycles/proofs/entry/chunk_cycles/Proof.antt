@@ -1,4 +1,4 @@
--- `chunk_cycles` answers the cost of the chunk with these parts, or the first of refusals 3 to 9.
+-- `chunk_cycles` answers the figure of the chunk with these parts, or the first of refusals 3 to 9 and 15.
 -- Assumes nothing.
 use mathlib.Core.Path.{_≡_, sym, ap, _∙_}
 use borrow.Author.Needs.{needs}

@@ -1,10 +1,10 @@
--- `cycle_walk` answers the cycles of a chunk and whether its row ends, or the first of refusals 1, 2, 12 and 3 to 9.
+-- `cycle_walk` answers the figure of a chunk, or the first of refusals 1, 2, 12, 3 to 9 and 15.
 -- Assumes nothing.
 use mathlib.Core.Path.{sym, ap, _∙_}
 use borrow.Author.Needs.{needs}
 use Rattle.words.specs.Lookup.{lookupOutcome}
 use Rattle.words.proofs.LookupLaws.{Chunked, lookup-found}
-use Rattle.cycles.specs.Answers.{walkResult}
+use Rattle.cycles.specs.Entry.{figureResult}
 use Rattle.cycles.proofs.EntryLaws.{lookup-told, chunk-told}
 use Rattle.cycles.proofs.entry.cycle_walk.Statement.{statement}
 use Rattle.cycles.proofs.entry.cycle_walk.Tie as tie
@@ -25,13 +25,13 @@ returns-2 : tie.Need-returns-2
 returns-2 c =
     let w = c .before .before .before in
     let h = there (w .before) in
-    chunk-told _ _ h (sym (ap walkResult (c .before .walk .given .1)) ∙ w .chunk-cycles .ensures (h .chunk) (h .parts))
+    chunk-told _ _ h (sym (ap figureResult (c .before .walk .given .1)) ∙ w .chunk-cycles .ensures (h .chunk) (h .parts))
 
 returns-3 : tie.Need-returns-3
 returns-3 c =
     let w = c .before .before .before in
     let h = there (w .before) in
-    chunk-told _ _ h (sym (ap walkResult (c .before .walk2 .given .1)) ∙ w .chunk-cycles .ensures (h .chunk) (h .parts))
+    chunk-told _ _ h (sym (ap figureResult (c .before .walk2 .given .1)) ∙ w .chunk-cycles .ensures (h .chunk) (h .parts))
 
 pub cycle-walk-spec : {M : Type 1} → statement M
 cycle-walk-spec =

@@ -448,5 +448,5 @@ pub +wcet-else+wcet-if+wcet-loop+wcet-part+wcet-region-at+wcet-step-spec :
     (wcet-step-op-wcet-cycles-requires t) (λ c. search needs) (λ c. search needs) (wcet-step-returns t) (λ c κs. tt) (wcet-step-block-at-requires t)
     (wcet-step-add-next t) (λ c. search needs) (λ c. search needs) (λ c κs. tt) (λ c. search needs) (λ c κs. tt) (λ c κs. tt)
     (λ c. search needs) (λ c κs. tt) (λ c. search needs) (wcet-step-wcet-if-requires t) (λ c. search needs)
-    (wcet-step-wcet-else-requires t) (λ c. search needs) (wcet-step-wcet-loop-requires t) (λ c. search needs) (λ c κs. tt) (λ c κs. tt) (wcet-step-returns-2 t) (wcet-step-returns-3 t)
+    (wcet-step-wcet-else-requires t) (λ c. search needs) (wcet-step-wcet-loop-requires t) (λ c. search needs) (λ c κs. tt) (λ c. search needs) (λ c κs. tt) (wcet-step-returns-2 t) (wcet-step-returns-3 t)
     (wcet-step-returns-4 t) (wcet-step-returns-5 t) (wcet-step-returns-6 t) (wcet-step-returns-7 t) (wcet-step-returns-8 t) (wcet-step-returns-9 t)

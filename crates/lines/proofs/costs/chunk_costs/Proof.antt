@@ -1,10 +1,11 @@
--- `chunk_costs` answers a range's cycles without its callees and with them, or the first refusal of the walks.
+-- `chunk_costs` answers a range's cycles without its callees, marked, and with them, or the first refusal of the walks.
 -- Assumes nothing.
 use mathlib.Core.Path.{_≡_, sym, ap, _∙_}
 use borrow.Author.Needs.{needs}
 use Rattle.rules.specs.Outcome.{ok, andThen}
-use Rattle.cycles.specs.Answers.{chunkOf, walkResult}
-use Rattle.lines.specs.Costs.{bothAre, bothCosts}
+use Rattle.cycles.specs.Answers.{chunkOf}
+use Rattle.cycles.specs.Entry.{figureOf, figureResult}
+use Rattle.lines.specs.Costs.{bothOf, bothCosts}
 use Rattle.lines.proofs.CostLaws.{first-refused, walked-once, walked-twice}
 use Rattle.lines.proofs.costs.chunk_costs.Statement.{statement}
 use Rattle.lines.proofs.costs.chunk_costs.Tie as tie
@@ -14,7 +15,7 @@ returns c =
     let w = c .before .before .before in
     let a = w .before .before .before .before .before .before .args in
     first-refused (a .constants .now) (a .ops .now) (a .extras .now) (a .wholes .now) (a .from) (a .to)
-    (sym (ap walkResult (c .before .walk2 .given .1)) ∙ w .wcet-region .ensures)
+    (sym (ap figureResult (c .before .walk2 .given .1)) ∙ w .wcet-region .ensures)
 
 returns-2 : tie.Need-returns-2
 returns-2 c =
@@ -22,20 +23,20 @@ returns-2 c =
     let w = k .before .before in
     let a = w .before .before .before .before .before .before .args in
     walked-once (a .constants .now) (a .ops .now) (a .extras .now) (a .wholes .now) (a .from) (a .to)
-    (sym (ap walkResult (k .walk .given .1)) ∙ w .wcet-region .ensures) (sym (c .before .calls-none .ensures) ∙ c .if1 .taken)
+    (sym (ap figureResult (k .walk .given .1)) ∙ w .wcet-region .ensures) (sym (c .before .calls-none .ensures) ∙ c .if1 .taken)
 
 -- behind both walks
 twice : (v : tie.After-wcet-region2) →
     let k = v .before .before .before .before in
     let a = k .before .before .before .before .before .before .before .before .args in
-    andThen (walkResult (v .wcet-region2 .result)) (λ w. ok (bothAre (k .walk .given .0 .0 .cycles) (w .cycles)))
+    andThen (figureResult (v .wcet-region2 .result)) (λ w. ok (bothOf (figureOf (k .walk .given .0 .0)) w))
     ≡ bothCosts (chunkOf (a .constants .now) (a .ops .now) (a .extras .now)) (a .wholes .now) (a .from) (a .to)
 twice v =
     let k = v .before .before .before .before in
     let w = k .before .before in
     let a = w .before .before .before .before .before .before .args in
     walked-twice (a .constants .now) (a .ops .now) (a .extras .now) (a .wholes .now) (a .from) (a .to)
-    (sym (ap walkResult (k .walk .given .1)) ∙ w .wcet-region .ensures) (v .wcet-region2 .ensures)
+    (sym (ap figureResult (k .walk .given .1)) ∙ w .wcet-region .ensures) (v .wcet-region2 .ensures)
 
 returns-3 : tie.Need-returns-3
 returns-3 c = rw (c .before .charged .given .1) at (twice (c .before .before .before))
