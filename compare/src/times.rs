@@ -3,7 +3,7 @@ use crate::bytecode::Module;
 use crate::case;
 use crate::classes::{self, Class, SEARCHING, chain, loops, plain};
 use crate::form::{self, Chunk};
-use crate::pinnaclemug::{self, Cycles, ROW};
+use crate::pinnaclemug::{self, ROW};
 use crate::rounds::round;
 use crate::table;
 use crate::verify::oracle;
@@ -74,12 +74,8 @@ fn cycles(name: &str, chunks: &[Chunk]) {
     let original = |module: &Module| oracle::cycles(&module.chunks[0]);
     let (cycles, ends) = original(&parsed(&words)).expect("an answer");
     let ours = |words: &[u32]| pinnaclemug::cycles(words, 0);
-    let walk = Cycles {
-        cycles,
-        ends,
-        cut: false,
-    };
-    assert_eq!(ours(&words), Ok(walk), "{name}");
+    let compared = ours(&words).map(|walk| (walk.cycles, walk.ends));
+    assert_eq!(compared, Ok((cycles, ends)), "{name}");
     timed(name, &words, ours, original);
 }
 

@@ -29,9 +29,9 @@ use Rattle.cycles.specs.declared.charge.Charge.the-variants.{Is, OpenTex
 use Rattle.cycles.specs.declared.region.Cost.{Cost}
 use Rattle.cycles.specs.declared.region.Walk as W
 use Rattle.cycles.specs.declared.region.Step.{Step}
-use Rattle.cycles.specs.declared.region.Step.the-variants.{Goes, Refused}
+use Rattle.cycles.specs.declared.region.Step.the-variants.{Goes, Ends, Refused}
 use Rattle.cycles.specs.Answers.{breaksOf, costOf, chunkOf, chargeAt, chargeResult, walkResult, regionCost, partCost}
-use Rattle.cycles.specs.Steps.{cut, stepResult, Means, StepMeans, IfMeans, ElseMeans, LoopMeans, armsTail, endedAt, joined, onePassAt, allPassesAt}
+use Rattle.cycles.specs.Steps.{cut, stepResult, Means, StepMeans, IfMeans, ElseMeans, LoopMeans, armsTail, joined, onePassAt, allPassesAt}
 use Rattle.cycles.proofs.CycleLaws as L
 
 -- what is left of a row at i, with the cost and the breaks so far, gives the row's answer
@@ -49,10 +49,10 @@ module _ {constants ops extras wholes : List ℕ} {from to left : ℕ} {b : Brea
       L.region-end (chunkOf constants ops extras) wholes i to left cost (breaksOf met) (row-end (opAt ops) true i to (r .row .0) (r .row .1) h) ∙ r .same
 
   module _ (s : Step) (m : StepMeans constants ops extras wholes i to left cost met s) where
-    pub rest-forward : {j k : ℕ} {n : Breaks} → s ≡ Goes j k n → i < j
+    pub rest-forward : {j k : ℕ} {n : Breaks} → s ≡ Goes k n j → i < j
     rest-forward e = (rw e at (m .1)) .0
 
-    pub rest-goes : {j k : ℕ} {n : Breaks} → s ≡ Goes j k n → Rest constants ops extras wholes from to left b j k n
+    pub rest-goes : {j k : ℕ} {n : Breaks} → s ≡ Goes k n j → Rest constants ops extras wholes from to left b j k n
     rest-goes e = let g = rw e at m in record { row = g .1 .2; same = g .0 ∙ r .same }
 
     -- a step that ends the row, or refuses, gives the row's answer
@@ -74,7 +74,7 @@ module _ {ops : List ℕ} {i t to : ℕ} (h : IfFits ops i t to) where
       if-open o = (rw (← arm-is, L.open-too constants ops extras wholes t (L.charge-open constants ops extras wholes t (rw o at charged))), tt)
 
       pub if-goes : {y first total : ℕ} → q ≡ Is y → first ≡ cut (cost + arm .cycles) → total ≡ cut (first + y)
-          → IfMeans constants ops extras wholes i t to left cost b (Goes (t + 1) total (arm .breaks))
+          → IfMeans constants ops extras wholes i t to left cost b (Goes total (arm .breaks) (t + 1))
       if-goes {y} k f s =
           L.charge-is constants ops extras wholes t y (rw k at charged)
           (λ d p c. rw (add-one, s, f, c) (rw (← arm-is, L.uncalled constants ops extras wholes t (λ k. omega (arith, h .at .closed)), p), (omega (arith, if-within h), h .at .within, h .at .rest)))
@@ -189,34 +189,33 @@ module _ {constants ops extras wholes : List ℕ} {i to left cycles cost : ℕ} 
       let o = rw e at opens in
       rw (o .tree, paid a (rw e at calls), ← a .sum) (m to (record { row = a .fits .row; at = o }))
 
-  pub step-ends : (r : Step) → k ≡ B.Ends → r ≡ endedAt cost b → StepMeans constants ops extras wholes i to left cycles b r
+  pub step-ends : k ≡ B.Ends → StepMeans constants ops extras wholes i to left cycles b (Ends cost b)
   unfolding rowCost
-  step-ends r e is =
+  step-ends e =
       let o = rw e at opens in
-      rw is (rw (o .tree, paid a (rw e at calls), a .sum), tt)
+      (rw (o .tree, paid a (rw e at calls), a .sum), tt)
 
-  pub step-break : {n : Breaks} (r : Step) → k ≡ Break → breaksOf n ≡ R.noteBreak (breaksOf b) cost → r ≡ endedAt cost n
-      → StepMeans constants ops extras wholes i to left cycles b r
+  pub step-break : (n : Breaks) → k ≡ Break → breaksOf n ≡ R.noteBreak (breaksOf b) cost → StepMeans constants ops extras wholes i to left cycles b (Ends cost n)
   unfolding rowCost
-  step-break r e z is =
+  step-break n e z =
       let o = rw e at opens in
-      rw is (rw (z, o .behind .tree, paid a (rw e at calls), a .sum), tt)
+      (rw (z, o .behind .tree, paid a (rw e at calls), a .sum), tt)
 
   pub step-break-if : (n : Breaks) → k ≡ BreakIf → breaksOf n ≡ R.noteBreak (breaksOf b) cost
-      → StepMeans constants ops extras wholes i to left cycles b (Goes (i + 1) cost n)
+      → StepMeans constants ops extras wholes i to left cycles b (Goes cost n (i + 1))
   unfolding rowCost
   step-break-if n e z =
       let o = rw e at opens in
       rw add-one (rw (z, o .behind .tree, paid a (rw e at calls), a .sum), (omega arith, a .fits .here, o .behind .rest))
 
-  pub step-plain : k ≡ Plain → StepMeans constants ops extras wholes i to left cycles b (Goes (i + 1) cost b)
+  pub step-plain : k ≡ Plain → StepMeans constants ops extras wholes i to left cycles b (Goes cost b (i + 1))
   unfolding rowCost
   step-plain e =
       let o = rw e at opens in
       rw add-one (rw (o .tree, paid a (rw e at calls), a .sum), (omega arith, a .fits .here, o .rest))
 
   -- a Call, with its callee's figure
-  pub step-call : {c cost′ : ℕ} → k ≡ Call c → cost′ ≡ cut (cost + getD wholes c 0) → StepMeans constants ops extras wholes i to left cycles b (Goes (i + 1) cost′ b)
+  pub step-call : {c cost′ : ℕ} → k ≡ Call c → cost′ ≡ cut (cost + getD wholes c 0) → StepMeans constants ops extras wholes i to left cycles b (Goes cost′ b (i + 1))
   unfolding rowCost
   step-call {c} e is =
       let o = rw e at opens in

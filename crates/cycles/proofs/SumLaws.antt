@@ -20,8 +20,8 @@ use Rattle.words.proofs.OpLaws.{read-op}
 use Rattle.cycles.specs.Answers.{breaksFrom, breaksOf, chargeAt}
 use Rattle.cycles.specs.declared.sums.Breaks.{Breaks}
 use Rattle.cycles.specs.declared.region.Cost.{Cost}
-use Rattle.cycles.specs.declared.region.Step.the-variants.{Goes, Refused}
-use Rattle.cycles.specs.Steps.{cut, endedAt, endsOr, joined, allPassesAt, onePassAt}
+use Rattle.cycles.specs.declared.region.Step.the-variants.{Goes, Ends, Refused}
+use Rattle.cycles.specs.Steps.{cut, endsOr, joined, allPassesAt, onePassAt}
 
 -- no pass costs nothing
 pub no-times : (a n : ℕ) → n ≡ 0 → 0 ≡ cut (a * n)
@@ -63,11 +63,11 @@ module _ (ops extras : List ℕ) (i x : ℕ) (is : x ≡ extraAt (extrasOf extra
 
 -- a body that never reaches its end
 module _ (e cost s : ℕ) (body : Cost) (b : Breaks) where
-  pub once-ends : body .breaks .met ≡ false → s ≡ cut (cost + body .cycles) → endedAt s b ≡ onePassAt e cost body b
+  pub once-ends : body .breaks .met ≡ false → s ≡ cut (cost + body .cycles) → Ends s b ≡ onePassAt e cost body b
   once-ends m is = rw (m, is)
 
   pub once-goes : body .breaks .met ≡ true → (g : ℕ) → g ≡ max (body .cycles) (body .breaks .costliest) → s ≡ cut (cost + g)
-      → Goes (e + 1) s b ≡ onePassAt e cost body b
+      → Goes s b (e + 1) ≡ onePassAt e cost body b
   once-goes m g top is = rw (m, is, top, add-one)
 
 -- a body that reaches EndLoop at e, of a Loop at i
@@ -81,7 +81,7 @@ module _ (constants ops extras : List ℕ) (i e cost : ℕ) (body : Cost) (b : B
 
     pub passes-total : (d pass all most sum total : ℕ) → ok d ≡ chargeAt ops extras e → pass ≡ cut (body .cycles + d) → all ≡ cut (pass * n)
         → most ≡ breakCost (breaksOf (body .breaks)) → sum ≡ cut (all + most) → total ≡ cut (cost + sum)
-        → Goes (e + 1) total b ≡ allPassesAt constants ops extras i e cost body b
+        → Goes total b (e + 1) ≡ allPassesAt constants ops extras i e cost body b
     passes-total d pass all most sum total close p a m s t = rw (← count, ← close, add-one, t, s, m, a, p)
 
 -- both arms walked, with Else at e and EndIf at f

@@ -20,14 +20,14 @@ cut n = min wideCap n
 
 -- how a row that ends at `to` goes on from a step
 abbrev pub stepResult : Chunk → List ℕ → ℕ → ℕ → Step → Result R.Cost
-stepResult c wholes to left (Goes j k b) = regionCost c wholes j to left k (breaksOf b)
-stepResult c wholes to left (Ends k) = ok (costOf k)
+stepResult c wholes to left (Goes k b j) = regionCost c wholes j to left k (breaksOf b)
+stepResult c wholes to left (Ends k b) = ok (R.costs k true (breaksOf b))
 stepResult c wholes to left (Refused n p) = no n p
 
 -- a step from i goes on behind i, before a row
 abbrev pub Onward : List ℕ → ℕ → ℕ → Step → Type 0
-Onward ops i to (Goes j k b) = (i < j) × (j ≤ to) × HasRow (opAt ops) true j to
-Onward ops i to (Ends k) = Unit {0}
+Onward ops i to (Goes k b j) = (i < j) × (j ≤ to) × HasRow (opAt ops) true j to
+Onward ops i to (Ends k b) = Unit {0}
 Onward ops i to (Refused n p) = Unit {0}
 
 -- a step that gives this result, and goes on
@@ -78,18 +78,14 @@ abbrev pub LoopMeans : List ℕ → List ℕ → List ℕ → List ℕ → ℕ �
 LoopMeans constants ops extras wholes i e to left cost b r =
     Means constants ops extras wholes i to left (loopTail (chunkOf constants ops extras) wholes i e to left cost (breaksOf b)) r
 
--- a step that ends the row
-abbrev pub endedAt : ℕ → Breaks → Step
-endedAt cost b = Ends (record { cycles = cost; ends = true; breaks = b })
-
 -- a charge or a count, or its refusal
 abbrev pub onCharge : Result ℕ → (ℕ → Step) → Step
 onCharge (ok c) next = next c
 onCharge (no n p) next = Refused n p
 
 abbrev pub endsOr : Bool → ℕ → ℕ → Breaks → Step
-endsOr true j cost b = endedAt cost b
-endsOr false j cost b = Goes j cost b
+endsOr true j cost b = Ends cost b
+endsOr false j cost b = Goes cost b j
 
 -- both arms walked, as a step
 abbrev pub joined : List ℕ → List ℕ → ℕ → ℕ → ℕ → Cost → Cost → Step
@@ -99,8 +95,8 @@ joined ops extras e f cost arm other =
     (λ g. endsOr (arm .ends && other .ends) (suc f) (cut (cut (cost + max (cut (arm .cycles + d)) (other .cycles)) + g)) (other .breaks)))
 
 abbrev pub passOnce : Bool → ℕ → ℕ → Cost → Breaks → Step
-passOnce true e cost body b = Goes (suc e) (cut (cost + max (body .cycles) (body .breaks .costliest))) b
-passOnce false e cost body b = endedAt (cut (cost + body .cycles)) b
+passOnce true e cost body b = Goes (cut (cost + max (body .cycles) (body .breaks .costliest))) b (suc e)
+passOnce false e cost body b = Ends (cut (cost + body .cycles)) b
 
 -- a body that never reaches its end, as a step
 abbrev pub onePassAt : ℕ → ℕ → Cost → Breaks → Step
@@ -114,4 +110,4 @@ passesSum cost body n d = cut (cost + cut (cut (cut (body .cycles + d) * n) + R.
 abbrev pub allPassesAt : List ℕ → List ℕ → List ℕ → ℕ → ℕ → ℕ → Cost → Breaks → Step
 allPassesAt constants ops extras i e cost body b =
     onCharge (countOf (chunkOf constants ops extras) i)
-    (λ n. onCharge (chargeAt ops extras e) (λ d. Goes (suc e) (passesSum cost body n d) b))
+    (λ n. onCharge (chargeAt ops extras e) (λ d. Goes (passesSum cost body n d) b (suc e)))

@@ -18,7 +18,7 @@ ghost use lib.ListN.{length};
 ghost use Rattle.rules.specs.Limits.{mostWords};
 ghost use Rattle.rows.specs.Opens.{RowFits, StepFits, IfFits, ElseFits, LoopFits};
 ghost use Rattle.cycles.specs.Answers.{breaksOf, walkResult, partCost, regionCost, chunkOf};
-ghost use Rattle.cycles.specs.Steps.{StepMeans, IfMeans, ElseMeans, LoopMeans, endedAt, joined, allPassesAt, onePassAt};
+ghost use Rattle.cycles.specs.Steps.{StepMeans, IfMeans, ElseMeans, LoopMeans, joined, allPassesAt, onePassAt};
 
 // What the walk of a row gives: its cycles up to the wide cap, whether it ends, and the breaks out of the loop around it.
 pub struct Cost {
@@ -33,22 +33,11 @@ pub enum Walk {
     Refused { number: u32, place: usize },
 }
 
-// How a row goes on behind an op or a block: at a position with a cost and breaks, or it ends, or a refusal.
+// How a row goes on behind an op or a block: with a cost and breaks at a position, or it ends with them, or a refusal.
 pub enum Step {
-    Goes(usize, u64, Breaks),
-    Ends(Cost),
+    Goes(u64, Breaks, usize),
+    Ends(u64, Breaks),
     Refused { number: u32, place: usize },
-}
-
-// A cost of a row that ends.
-fn ended(cycles: u64, breaks: Breaks) -> Step
-    ensures { λ r. ⌜ r ≡ endedAt cycles breaks ⌝ }
-{
-    Step::Ends(Cost {
-        cycles,
-        ends: true,
-        breaks,
-    })
 }
 
 // The row from `from` up to `to`, with `left` levels of nesting left inside it and the breaks met so far. A Call is charged the whole figure that the list
@@ -68,27 +57,36 @@ pub fn wcet_region_at(
 {
     let mut i = from;
     let mut cycles: u64 = 0;
-    let mut met = breaks;
+    // The breaks by their fields: as one value their padding would be copied at every op.
+    let mut met = breaks.met;
+    let mut costliest = breaks.costliest;
     while i < to {
-        let step = wcet_step(constants, ops, extras, wholes, i, left, cycles, met);
+        let noted = Breaks { met, costliest };
+        let step = wcet_step(constants, ops, extras, wholes, i, left, cycles, noted);
         match step {
-            Step::Goes(next, cost, noted) => {
+            Step::Goes(cost, more, next) => {
                 i = next;
                 cycles = cost;
-                met = noted;
+                met = more.met;
+                costliest = more.costliest;
             }
-            Step::Ends(cost) => {
-                return Walk::Done(cost);
+            Step::Ends(cost, more) => {
+                return Walk::Done(Cost {
+                    cycles: cost,
+                    ends: true,
+                    breaks: more,
+                });
             }
             Step::Refused { number, place } => {
                 return Walk::Refused { number, place };
             }
         }
     }
+    let last = Breaks { met, costliest };
     Walk::Done(Cost {
         cycles,
         ends: false,
-        breaks: met,
+        breaks: last,
     })
 }
 
@@ -117,10 +115,10 @@ fn wcet_step(
     let block = block_at(ops, i);
     let next = i + 1;
     match block {
-        Block::Plain => Step::Goes(next, cost, breaks),
-        Block::Ends => ended(cost, breaks),
-        Block::Break => ended(cost, note_break(breaks, cost)),
-        Block::BreakIf => Step::Goes(next, cost, note_break(breaks, cost)),
+        Block::Plain => Step::Goes(cost, breaks, next),
+        Block::Ends => Step::Ends(cost, breaks),
+        Block::Break => Step::Ends(cost, note_break(breaks, cost)),
+        Block::BreakIf => Step::Goes(cost, note_break(breaks, cost), next),
         Block::If(t) => wcet_if(constants, ops, extras, wholes, i, t, left, cost, breaks),
         Block::IfElse(e, f) => wcet_else(
             constants,
@@ -135,7 +133,7 @@ fn wcet_step(
             breaks,
         ),
         Block::Loop(e) => wcet_loop(constants, ops, extras, wholes, i, e, left, cost, breaks),
-        Block::Call(k) => Step::Goes(next, cap_add(cost, number_at(wholes, k) as u64), breaks),
+        Block::Call(k) => Step::Goes(cap_add(cost, number_at(wholes, k) as u64), breaks, next),
     }
 }
 
@@ -193,7 +191,7 @@ fn wcet_if(
     };
     let noted = arm.breaks;
     let next = t + 1;
-    Step::Goes(next, cap_add(cap_add(cost, arm.cycles), close), noted)
+    Step::Goes(cap_add(cap_add(cost, arm.cycles), close), noted, next)
 }
 
 // Behind an If at i, charged already, with Else at e and EndIf at f: both arms, Else, and EndIf.
@@ -266,9 +264,9 @@ fn join_arms(
     let total = cap_add(cap_add(cost, greater), close);
     let noted = other.breaks;
     if arm.ends && other.ends {
-        return ended(total, noted);
+        return Step::Ends(total, noted);
     }
-    Step::Goes(f + 1, total, noted)
+    Step::Goes(total, noted, f + 1)
 }
 
 // Behind a Loop at i, charged already, with EndLoop at e: the body and its passes.
@@ -334,9 +332,9 @@ fn all_passes(
     let inner = body.breaks;
     let passes = cap_mul(cap_add(body.cycles, close), n);
     Step::Goes(
-        e + 1,
         cap_add(cost, cap_add(passes, break_cost(inner))),
         breaks,
+        e + 1,
     )
 }
 
@@ -347,12 +345,12 @@ fn one_pass(e: usize, cost: u64, body: Cost, breaks: Breaks) -> Step
 {
     let inner = body.breaks;
     if !inner.met {
-        return ended(cap_add(cost, body.cycles), breaks);
+        return Step::Ends(cap_add(cost, body.cycles), breaks);
     }
     let greater = if body.cycles < inner.costliest {
         inner.costliest
     } else {
         body.cycles
     };
-    Step::Goes(e + 1, cap_add(cost, greater), breaks)
+    Step::Goes(cap_add(cost, greater), breaks, e + 1)
 }

@@ -37,7 +37,6 @@ use Rattle.words.proofs.values.number_at.Reads as number-at-reads
 use Rattle.cycles.proofs.region.all_passes.Reads as all-passes-reads
 use Rattle.cycles.proofs.region.join_arms.Reads as join-arms-reads
 use Rattle.cycles.proofs.region.one_pass.Reads as one-pass-reads
-use Rattle.cycles.proofs.region.ended.Reads as ended-reads
 use Rattle.cycles.proofs.sums.note_break.Reads as note-break-reads
 use Rattle.rows.proofs.block.block_at.Reads as block-at-reads
 use Rattle.cycles.proofs.sums.cap_add.Reads as cap-add-reads
@@ -262,10 +261,11 @@ wcet-part-returns-2 t c =
     (d .if1 .left) (c .wcet-region-at .ensures)
 
 abbrev wcet-region-at-Inv-loop : wcet-region-at-lts.InvT-loop
-wcet-region-at-Inv-loop constants ops extras wholes from to left i₀ cycles₀ met₀ i cycles met = Rest constants ops extras wholes from to left met₀ i cycles met
+wcet-region-at-Inv-loop constants ops extras wholes from to left i₀ cycles₀ met₀ costliest₀ i cycles met costliest =
+    Rest constants ops extras wholes from to left (record { met = met₀; costliest = costliest₀ }) i cycles (record { met = met; costliest = costliest })
 
 abbrev wcet-region-at-μ-loop : wcet-region-at-lts.MeasureT-loop
-wcet-region-at-μ-loop constants ops extras wholes from to left i₀ cycles₀ met₀ i cycles met = to - i
+wcet-region-at-μ-loop constants ops extras wholes from to left i₀ cycles₀ met₀ costliest₀ i cycles met costliest = to - i
 
 -- what the callees of `wcet-region-at` ask and give, and what a need of it is
 abbrev wcet-region-at-calls : ℕ → wcet-region-at-lts.Claims
@@ -284,7 +284,8 @@ wcet-region-at-wcet-step-requires t c κs = (omega arith, (_, rest-fits (c .befo
 wcet-region-at-means : (t : ℕ) (c : wcet-region-at-lts.After-wcet-step (wcet-region-at-calls t) (wcet-region-at-at t) wcet-region-at.Post wcet-region-at-Inv-loop wcet-region-at-μ-loop)
     → let l = c .before .before .loop in
     let a = c .before .before .before .before .before .before .before .args in
-    StepMeans (a .constants .now) (a .ops .now) (a .extras .now) (a .wholes .now) (l .i) (a .to) (a .left) (l .cycles) (l .met) (c .wcet-step .result)
+    StepMeans (a .constants .now) (a .ops .now) (a .extras .now) (a .wholes .now) (l .i) (a .to) (a .left) (l .cycles)
+    (record { met = l .met; costliest = l .costliest }) (c .wcet-step .result)
 wcet-region-at-means t c =
     let l = c .before in
     c .wcet-step .ensures _ (rest-fits (l .before .loop .inv) (l .before .before .before .before .before .before .pre .1) (l .loop-test .taken))
@@ -318,7 +319,7 @@ wcet-region-at-returns-3 t c = rest-end (c .before .loop .inv) (c .loop-test .le
 
 -- what the callees of `wcet-step` ask and give, and what a need of it is
 abbrev wcet-step-calls : ℕ → wcet-step-lts.Claims
-wcet-step-calls t = (op-wcet-cycles-reads.Asked, op-wcet-cycles-reads.Learnt, cap-add-reads.Asked, cap-add-reads.Learnt, block-at-reads.Asked, block-at-reads.Learnt, ended-reads.Asked, ended-reads.Learnt, note-break-reads.Asked, note-break-reads.Learnt, wcet-if-below t, wcet-if.Post, wcet-else-below t, wcet-else.Post, wcet-loop-below t, wcet-loop.Post, number-at-reads.Asked, number-at-reads.Learnt)
+wcet-step-calls t = (op-wcet-cycles-reads.Asked, op-wcet-cycles-reads.Learnt, cap-add-reads.Asked, cap-add-reads.Learnt, block-at-reads.Asked, block-at-reads.Learnt, note-break-reads.Asked, note-break-reads.Learnt, wcet-if-below t, wcet-if.Post, wcet-else-below t, wcet-else.Post, wcet-loop-below t, wcet-loop.Post, number-at-reads.Asked, number-at-reads.Learnt)
 
 abbrev wcet-step-need : (wcet-step-lts.Claims → In 4 wcet-step-kinds.ps → Out 4 wcet-step-kinds.ps wcet-step-kinds.r → Type 0) → Type 0
 wcet-step-need N = (t : ℕ) → N (wcet-step-calls t) (wcet-step-at t) wcet-step.Post
@@ -376,17 +377,13 @@ wcet-step-returns-2 : wcet-step-need wcet-step-lts.Need-returns-2
 wcet-step-returns-2 t c to h = let k = c .before .before in step-plain (wcet-step-charged t (k .before) to h) (k .block-at .ensures .0 to h) (k .block-at .ensures .1) (c .enum-told2 .given .1)
 
 wcet-step-returns-3 : wcet-step-need wcet-step-lts.Need-returns-3
-wcet-step-returns-3 t c to h =
-    let e = c .before in
-    let k = e .before .before in
-    step-ends (wcet-step-charged t (k .before) to h) (k .block-at .ensures .0 to h) (k .block-at .ensures .1) _ (e .enum-told3 .given .1) (c .ended .ensures)
+wcet-step-returns-3 t c to h = let k = c .before .before in step-ends (wcet-step-charged t (k .before) to h) (k .block-at .ensures .0 to h) (k .block-at .ensures .1) (c .enum-told3 .given .1)
 
 wcet-step-returns-4 : wcet-step-need wcet-step-lts.Need-returns-4
 wcet-step-returns-4 t c to h =
-    let n = c .before in
-    let e = n .before in
+    let e = c .before in
     let k = e .before .before in
-    step-break (wcet-step-charged t (k .before) to h) (k .block-at .ensures .0 to h) (k .block-at .ensures .1) _ (e .enum-told4 .given .1) (n .note-break .ensures) (c .ended2 .ensures)
+    step-break (wcet-step-charged t (k .before) to h) (k .block-at .ensures .0 to h) (k .block-at .ensures .1) (c .note-break .result) (e .enum-told4 .given .1) (c .note-break .ensures)
 
 wcet-step-returns-5 : wcet-step-need wcet-step-lts.Need-returns-5
 wcet-step-returns-5 t c to h =
@@ -446,7 +443,7 @@ pub +wcet-else+wcet-if+wcet-loop+wcet-part+wcet-region-at+wcet-step-spec :
     (wcet-region-at-returns-3 t))
     λ t. wcet-step-lts.spec (wcet-step-calls t) (wcet-step-at t) wcet-step.Post
     (wcet-step-op-wcet-cycles-requires t) (λ c. search needs) (λ c. search needs) (wcet-step-returns t) (λ c κs. tt) (wcet-step-block-at-requires t)
-    (wcet-step-add-next t) (λ c. search needs) (λ c. search needs) (λ c κs. tt) (λ c. search needs) (λ c κs. tt) (λ c κs. tt)
+    (wcet-step-add-next t) (λ c. search needs) (λ c. search needs) (λ c. search needs) (λ c κs. tt)
     (λ c. search needs) (λ c κs. tt) (λ c. search needs) (wcet-step-wcet-if-requires t) (λ c. search needs)
     (wcet-step-wcet-else-requires t) (λ c. search needs) (wcet-step-wcet-loop-requires t) (λ c. search needs) (λ c κs. tt) (λ c. search needs) (λ c κs. tt) (wcet-step-returns-2 t) (wcet-step-returns-3 t)
     (wcet-step-returns-4 t) (wcet-step-returns-5 t) (wcet-step-returns-6 t) (wcet-step-returns-7 t) (wcet-step-returns-8 t) (wcet-step-returns-9 t)

@@ -40,4 +40,4 @@ pub all-passes-spec : {M : Type 1} → statement M
 all-passes-spec =
     tie.close
     (tie.spec (λ c κs. search needs) (λ c. search needs) enum-told returns (λ c κs. search needs) (λ c. search needs) (λ c. search needs) returns-2
-    (λ c κs. search needs) (λ c κs. search needs) (λ c. search needs) (λ c κs. search needs) (λ c κs. search needs) (λ c κs. search needs) returns-3)
+    (λ c κs. search needs) (λ c κs. search needs) (λ c κs. search needs) (λ c κs. search needs) (λ c κs. search needs) (λ c. search needs) returns-3)

@@ -1,6 +1,6 @@
 -- `join_arms` gives what both arms cost, with Else and EndIf, as a step.
 -- Assumes nothing.
-use mathlib.Core.Path.{_≡_, _∙_}
+use mathlib.Core.Path.{_≡_}
 use mathlib.Core.Bool.{Bool, true, false, _&&_}
 use mathlib.Core.Logic.{⊎-elim}
 use Prim.Native.Nat.{suc}
@@ -47,9 +47,7 @@ total c =
     (⊎-elim (λ w. omega arith) (λ w. omega arith) (j .if1 .came)) (c .before .before .cap-add2 .ensures) (c .before .cap-add3 .ensures)
 
 returns-3 : tie.Need-returns-3
-returns-3 c =
-    let n = c .before .before in
-    c .ended .ensures ∙ total (n .before) true (rw (n .if2 .taken, c .before .if3 .taken))
+returns-3 c = total (c .before .before) true (rw (c .before .if2 .taken, c .if3 .taken))
 
 returns-4 : tie.Need-returns-4
 returns-4 c =
@@ -59,4 +57,4 @@ pub join-arms-spec : {M : Type 1} → statement M
 join-arms-spec =
     tie.close
     (tie.spec (λ c κs. search needs) (λ c. search needs) enum-told returns (λ c κs. search needs) (λ c. search needs) (λ c. search needs) returns-2
-    (λ c κs. search needs) (λ c κs. search needs) (λ c κs. search needs) (λ c κs. search needs) returns-3 (λ c. search needs) returns-4)
+    (λ c κs. search needs) (λ c κs. search needs) (λ c κs. search needs) returns-3 (λ c. search needs) returns-4)

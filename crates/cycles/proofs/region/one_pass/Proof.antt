@@ -1,6 +1,5 @@
 -- `one_pass` charges a body that never reaches its end once.
 -- Assumes nothing.
-use mathlib.Core.Path.{_∙_}
 use mathlib.Core.Logic.{⊎-elim}
 use native.Mathlib.Omega.{arith}
 use borrow.Author.Tests.{not-true, not-false}
@@ -11,9 +10,9 @@ use Rattle.cycles.proofs.region.one_pass.Tie as tie
 
 returns : tie.Need-returns
 returns c =
-    let k = c .before .before in
+    let k = c .before in
     let a = k .before .before .before .args in
-    c .ended .ensures ∙ once-ends (a .e) (a .cost) _ (a .body) (a .breaks) (not-true _ (k .if1 .taken)) (c .before .cap-add .ensures)
+    once-ends (a .e) (a .cost) _ (a .body) (a .breaks) (not-true _ (k .if1 .taken)) (c .cap-add .ensures)
 
 returns-2 : tie.Need-returns-2
 returns-2 c =
@@ -26,4 +25,4 @@ returns-2 c =
 pub one-pass-spec : {M : Type 1} → statement M
 one-pass-spec =
     tie.close
-    (tie.spec (λ c κs. search needs) (λ c κs. search needs) returns (λ c. search needs) (λ c κs. search needs) returns-2)
+    (tie.spec (λ c κs. search needs) returns (λ c κs. search needs) (λ c. search needs) returns-2)
