@@ -13,7 +13,7 @@ use Rattle.cycles.specs.declared.sums.Breaks.{Breaks}
 use Rattle.cycles.specs.declared.region.Cost.{Cost}
 use Rattle.cycles.specs.declared.region.Step.{Step}
 use Rattle.cycles.specs.declared.region.Step.the-variants.{Goes, Ends, Refused}
-use Rattle.cycles.specs.Answers.{wideCap, breaksOf, costOf, chunkOf, chargeAt, regionCost, partCost}
+use Rattle.cycles.specs.Answers.{wideCap, breaksOf, chunkOf, chargeAt, regionCost, partCost}
 
 abbrev pub cut : ℕ → ℕ
 cut n = min wideCap n

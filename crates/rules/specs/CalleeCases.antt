@@ -11,7 +11,7 @@ use Rattle.rules.specs.Ops.{word}
 use Rattle.rules.specs.Form.{integer, Chunk, moduleWords}
 use Rattle.rules.specs.Sheet.{lineWidth, sheetOutcome}
 use Rattle.rules.specs.Text.{bytesIn, textOf, sheetText}
-use Rattle.rules.specs.Cases.{Case, op, func, chunkL, alone, one, sheet, caller, stream}
+use Rattle.rules.specs.Cases.{Case, op, func, one, sheet, caller, stream}
 
 -- the cycles and the whole figures of a module's chunks
 pub record Figures : Type 0 where
