@@ -1,17 +1,12 @@
 //! Figures about 4,294,967,295, where request 2.5's mark turns: chunks with an extra that brings their cycles to it, and with great extras at every op.
 use crate::case::Case;
-use crate::form::{Chunk, Op};
-use crate::kinds::*;
+use crate::form::Chunk;
 use crate::nesting::Around::{Arm, Body, FirstArm, SecondArm};
 use crate::nesting::{counted, nested};
-use crate::pieces::{chunk, chunk_l, chunk_l_array, longer_l, ops, with_extra};
+use crate::pieces::{chunk_l, chunk_l_array, func, longer_l, ops, with_extra};
 use crate::verify::oracle;
 
 const CAP: i64 = u32::MAX as i64;
-
-fn func(ops: Vec<Op>) -> Chunk {
-    chunk(FUNC, 0, &[], ops)
-}
 
 /// Chunks of each shape that a row is made of, none of them at the cap.
 fn shapes() -> Vec<Chunk> {
@@ -51,7 +46,7 @@ fn near(see: &mut impl FnMut(Case)) {
     }
 }
 
-/// A great extra at every op, and half of it: what a cut on the way leaves depends on arms, breaks and passes.
+/// A great extra at every op, at the first 40 of a long chunk, and a half and a third of it: what a cut on the way leaves depends on arms, breaks and passes.
 fn great(see: &mut impl FnMut(Case)) {
     for held in shapes() {
         for i in 0..held.ops.len().min(40) {
@@ -68,7 +63,7 @@ fn great(see: &mut impl FnMut(Case)) {
     }
 }
 
-/// Loops in one another whose products pass 2^64 and 2^128, alone and behind a loop that is passed 0 times.
+/// Loops in one another whose products pass 2^64 and 2^128, passed and, the outermost of them, passed 0 times.
 fn products(see: &mut impl FnMut(Case)) {
     for passes in [2, 65_535, 65_536, 65_537, 4_294_967_295] {
         for depth in [1, 2, 3, 4, 5, 8, 64, 255] {

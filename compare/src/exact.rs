@@ -1,6 +1,6 @@
 //! The uncapped cycles of a chunk, by document 01's rules as plain Rust reads them over positions: request 2.5's mark says whether they are over 4,294,967,295.
-//! Nothing here is taken from the original but the counts of loops, which are handed in. Sums and products stop at 2^128 - 1; any cap above that number
-//! tells the same.
+//! Nothing here is taken from the original but the counts of loops, which are handed in. Sums and products stop at 2^128 - 1: the mark is the same for any cap
+//! above 4,294,967,295.
 use crate::document;
 use crate::form::Chunk;
 use crate::kinds::*;

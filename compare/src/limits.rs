@@ -4,7 +4,7 @@ use crate::form::{self, Chunk, Op};
 use crate::kinds::*;
 use crate::nesting::Around::{self, Arm, Body, FirstArm, SecondArm};
 use crate::nesting::{counted, nested};
-use crate::pieces::{chunk, chunk_l, chunk_l_array, op, ops, own_targets};
+use crate::pieces::{chunk, chunk_l, chunk_l_array, func, op, ops, own_targets};
 use crate::refusals::*;
 use crate::strays;
 use crate::table::{self, Outcome};
@@ -218,7 +218,6 @@ fn outside_breaks(see: &mut impl FnMut(Case)) {
 
 /// A chunk for each refusal that the ops of one may meet, and one that meets none.
 fn each_refusal() -> Vec<Chunk> {
-    let func = |ops| chunk(FUNC, 0, &[], ops);
     let mut open = func(ops![YIELD]);
     open.extras = vec![u32::MAX];
     vec![
@@ -328,7 +327,6 @@ fn counted_cases() -> Vec<Worked> {
 
 /// Rows, ranges, extras and nesting.
 fn row_cases() -> Vec<Worked> {
-    let func = |ops| chunk(FUNC, 0, &[], ops);
     let trapped = func(ops![CONST, IF 4, TRAP, ELSE 5, YIELD, END_IF, RETURN]);
     let empty = chunk(FUNC, 3, &[], vec![]);
     let nothing = chunk(STREAMING, 0, &[], ops![RESET, STREAM]);

@@ -74,6 +74,11 @@ pub fn chunk(mode: u8, locals: u16, constants: &[i64], ops: Vec<Op>) -> Chunk {
     }
 }
 
+/// A Func chunk of these ops, with no locals and no constants.
+pub fn func(ops: Vec<Op>) -> Chunk {
+    chunk(FUNC, 0, &[], ops)
+}
+
 /// Chunk L of document 01 with other constants: its ops are `Const 0, SetLocal 0, Const 1, SetLocal 1, Loop 15, GetLocal 0, GetLocal 1, CmpGe, BreakIf 15,
 /// GetLocal 0, Const 2, CheckedAdd, PopN 2, SetLocal 0, EndLoop 5, Return`.
 pub fn chunk_l(constants: &[i64]) -> Chunk {

@@ -3,7 +3,7 @@ use super::{Asked, List};
 use crate::form::{self, Chunk, MOST_CHUNKS};
 use crate::kinds::*;
 use crate::nesting::{Around, nested};
-use crate::pieces::{chunk, op, ops};
+use crate::pieces::{chunk, func, op, ops};
 use crate::refusals::*;
 use crate::typical;
 
@@ -45,7 +45,6 @@ fn orders(list: &mut List) {
         .is(&[1, 0]);
     let diamond = bare(&[&[1, 2], &[3], &[3], &[]]);
     list.order("diamond", &diamond, 4);
-    let func = |ops| chunk(FUNC, 0, &[], ops);
     let dead = [func(ops![RETURN, CALL 1]), func(vec![])];
     list.order("dead Call", &dead, 2).is(&[1, 0]);
     list.order("dead Call of itself", &[func(ops![RETURN, CALL])], 1)

@@ -2,13 +2,9 @@
 use super::{Asked, List};
 use crate::form::{self, Chunk, MOST_CHUNKS, Op};
 use crate::kinds::*;
-use crate::pieces::{chunk, chunk_l, longer_l, op, ops, with_extra};
+use crate::pieces::{chunk, chunk_l, func, longer_l, op, ops, with_extra};
 use crate::pinnaclemug::ROW;
 use crate::refusals::*;
-
-fn func(ops: Vec<Op>) -> Chunk {
-    chunk(FUNC, 0, &[], ops)
-}
 
 /// Which figure of the callee, and which Calls: those that the walk visits.
 fn charges(list: &mut List) {

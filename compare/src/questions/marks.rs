@@ -1,8 +1,7 @@
 //! Request 2.5: figures about the cap, and whether they are marked as cut.
 use super::{Asked, List};
 use crate::form::{self, Chunk, Op};
-use crate::kinds::*;
-use crate::pieces::{chunk, chunk_l, longer_l, ops, with_extra};
+use crate::pieces::{chunk_l, func, longer_l, ops, with_extra};
 use crate::pinnaclemug::ROW;
 use crate::refusals::*;
 
@@ -10,10 +9,6 @@ use crate::refusals::*;
 const GREAT: u32 = u32::MAX - 1;
 
 const MOST: i64 = u32::MAX as i64;
-
-fn func(ops: Vec<Op>) -> Chunk {
-    chunk(FUNC, 0, &[], ops)
-}
 
 /// A chunk with the great extra at op `i`.
 fn great(ops: Vec<Op>, i: usize) -> Chunk {

@@ -2,13 +2,9 @@
 use super::{Asked, List};
 use crate::form::{self, Chunk, Op};
 use crate::kinds::*;
-use crate::pieces::{chunk, chunk_l, op, ops};
+use crate::pieces::{chunk, chunk_l, func, op, ops};
 use crate::pinnaclemug::ROW;
 use crate::refusals::*;
-
-fn func(ops: Vec<Op>) -> Chunk {
-    chunk(FUNC, 0, &[], ops)
-}
 
 /// Both walks of a chunk alone and its sheet, which have the same refusal.
 fn refused(list: &mut List, name: &str, held: Chunk, number: u32, place: usize) {

@@ -52,7 +52,7 @@ pub enum CyclesAnswer {
     },
 }
 
-// A cost as it is filed: cut once, and marked if it was greater.
+// The figure of a cost: cut once, and marked if it was greater.
 fn figure_of(cost: Cost) -> Figure
     ensures { λ r. ⌜ figureOf r ≡ cyclesOf (costOf cost) ⌝ }
 {

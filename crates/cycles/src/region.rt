@@ -61,20 +61,20 @@ pub fn wcet_region_at(
     let mut met = breaks.met;
     let mut costliest = breaks.costliest;
     while i < to {
-        let noted = Breaks { met, costliest };
-        let step = wcet_step(constants, ops, extras, wholes, i, left, cycles, noted);
+        let so_far = Breaks { met, costliest };
+        let step = wcet_step(constants, ops, extras, wholes, i, left, cycles, so_far);
         match step {
-            Step::Goes(cost, more, next) => {
+            Step::Goes(cost, noted, next) => {
                 i = next;
                 cycles = cost;
-                met = more.met;
-                costliest = more.costliest;
+                met = noted.met;
+                costliest = noted.costliest;
             }
-            Step::Ends(cost, more) => {
+            Step::Ends(cost, noted) => {
                 return Walk::Done(Cost {
                     cycles: cost,
                     ends: true,
-                    breaks: more,
+                    breaks: noted,
                 });
             }
             Step::Refused { number, place } => {

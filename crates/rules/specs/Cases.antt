@@ -86,9 +86,12 @@ openTextBehind = func 0 [] (op K.Return 0 ∷ op K.Yield 0 ∷ []) (0 ∷ M.open
 abbrev pub oneCall : ℕ → Chunk
 oneCall locals = func locals [] (op K.Call 0 ∷ []) []
 
--- what the walks of one chunk answer; the cycles exact
+-- what the walks of one chunk answer; the cycles with their mark, or exact
+abbrev pub walked : ℕ → Bool → Bool → Outcome Cycles
+walked c e m = answer (record { cycles = c; ends = e; cut = m })
+
 abbrev pub cycles : ℕ → Bool → Outcome Cycles
-cycles c e = answer (record { cycles = c; ends = e; cut = false })
+cycles c e = walked c e false
 
 abbrev pub stack : ℕ → Delta → ℕ → Outcome Stack
 stack p d b = answer (record { peak = p; delta = d; bytes = b })

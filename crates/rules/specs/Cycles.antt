@@ -46,7 +46,8 @@ abbrev pub unlessEnds : Bool → ℕ → Breaks → (ℕ → Breaks → Result C
 unlessEnds true cost breaks rest = ok (costs cost true breaks)
 unlessEnds false cost breaks rest = rest cost breaks
 
--- The walk. `cut` is what is done to each sum and product: nothing for the uncapped figure, the minimum with a cap for one that stops there. `charge` and `count` give by position what an op costs and how often a loop passes, or a refusal.
+-- The walk. `cut` is what is done to each sum and product: nothing for the uncapped figure, the minimum with a cap for one that stops there. `charge` and
+-- `count` give by position what an op costs and how often a loop passes, or a refusal.
 module _ (cut : ℕ → ℕ) (charge count : ℕ → Result ℕ) where
   -- a cost and one op's charge more
   abbrev pub plus : ℕ → ℕ → ℕ

@@ -142,10 +142,12 @@ abbrev pub sheetOutcome : List ℕ → ℕ → Outcome Sheet
 sheetOutcome ws room =
     followedBy (readModule ws) (λ cs. followedBy (withRoom room (lineWidth * length cs) cs) (λ ds. sheetOf ds))
 
+-- "by chunk index": the numbers of line after line
 unfoldable pub trayNumbers : List Line → List ℕ
 trayNumbers [] = []
 trayNumbers (l ∷ ls) = lineNumbers l ++ trayNumbers ls
 
+-- "what lies beyond is left"; a refusal leaves the tray as it was
 abbrev pub sheetTray : Outcome Sheet → List ℕ → List ℕ
 sheetTray (answer s) tray = trayNumbers (s .lines) ++ drop (lineWidth * length (s .lines)) tray
 sheetTray (refused n c p) tray = tray
