@@ -198,7 +198,18 @@ fn shelf_run(name: &'static str, chunks: &[Chunk]) -> Run {
     }
 }
 
-fn runs() -> [Run; 5] {
+/// One of the stored runs of `optable`.
+fn table_run(name: &'static str, stored: &str) -> Run {
+    let file = |ending| std::fs::read(format!("crates/optable/runs/{stored}.{ending}"));
+    Run {
+        name,
+        program: "optable",
+        input: file("in").expect("a stored run"),
+        output: file("out").expect("a stored run"),
+    }
+}
+
+fn runs() -> [Run; 6] {
     let deepest = module(copies(DEEPEST.0, DEEPEST.1));
     let chunk_l = [chunk_l(&[0, 3, 1])];
     [
@@ -207,6 +218,7 @@ fn runs() -> [Run; 5] {
         sheet_run("program sheet: 7,925 copies in 255 blocks", deepest),
         shelf_run("program shelf: chunk L", &chunk_l),
         shelf_run("program shelf: as many words as there may be", &longest()),
+        table_run("program optable: 66 groups", "longest"),
     ]
 }
 

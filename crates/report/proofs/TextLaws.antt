@@ -1,4 +1,4 @@
--- What is printed: a text at the buffer's front, the text of each outcome, room for the lines, and bytes that are no words.
+-- What is printed: the text of each outcome, room for the lines, and bytes that are no words.
 -- Assumes nothing.
 use mathlib.Core.Path.{_≡_, sym, ap, _∙_}
 use mathlib.Core.Bool.{true, false}
@@ -20,13 +20,8 @@ use Rattle.sheets.specs.declared.module.Sheet.{Sheet}
 use Rattle.sheets.specs.Module.{rowsOf, sheetIs}
 use Rattle.sheets.proofs.SheetLaws.{order-chunks}
 use Rattle.sheets.proofs.AnswerLaws.{Kept, sheet-outcome, sheet-refused, kept, kept-room}
-use Rattle.text.specs.Paste.{pasted, Put}
 use Rattle.text.specs.Words.{WordsRead}
 use Rattle.report.specs.Report.{LinesFit}
-
--- a text at the front, by another name
-pub same-text : (xs ys l : List ℕ) {m : List ℕ} {r : ℕ} → Put 0 xs l m r → xs ≡ ys → (m ≡ pasted 0 ys l) × (r ≡ length ys)
-same-text xs ys l p e = (p .0 ∙ ap (λ (t : List ℕ). pasted 0 t l) e, omega (arith, p .1, ap length e))
 
 pub unread-text : (ws : List ℕ) (n p : ℕ) → refused n 0 p ≡ readOutcome ws → outcomeText (refused n 0 p) ≡ outcomeText (sheetOutcome ws sheetRoom)
 unread-text ws n p e = ap outcomeText (refused-before ws n p _ e)

@@ -1,4 +1,5 @@
--- The cases of specs/Cases, specs/CalleeCases, specs/MarkCases and specs/WritingCases, each list as one checked list. Assumes nothing.
+-- The cases of specs/Cases, specs/CalleeCases, specs/MarkCases, specs/WritingCases and specs/TableCases, each list as one checked list, and the table that
+-- document 01's groups print. Assumes nothing.
 use mathlib.Core.Path.{refl}
 use mathlib.Core.List.{flatMap}
 use Rattle.rules.specs.Ops.{inGroups}
@@ -11,10 +12,13 @@ use Rattle.rules.specs.Order.{member, calleesIn, visitEach, visit, upFro
 use Rattle.rules.specs.Sheet.{linesIn, trayNumbers}
 use Rattle.rules.specs.Text.{wordsOf, bytesIn, digits, linesText}
 use Rattle.rules.specs.Writing.{trimmed, every, heldConstants, heldOps, held}
+use Rattle.rules.specs.Table.{linesOf, fieldsOf, numberFrom, numbersOf, overlapsAny, inSome, allKinds, groupsFrom}
+use Rattle.rules.specs.TableClaims.{unended, TablePrinted}
 use Rattle.rules.specs.Cases.{AllHold, documented, settled, levelled, strayed}
 use Rattle.rules.specs.CalleeCases.{shared}
 use Rattle.rules.specs.MarkCases.{marked}
 use Rattle.rules.specs.WritingCases.{shelved}
+use Rattle.rules.specs.TableCases.{grouped}
 
 -- document 01's P cases
 pub documented-hold : AllHold documented
@@ -50,3 +54,13 @@ marked-hold = (refl, (refl, (refl, (refl, (refl, (refl, (refl, (refl, (refl, (re
 pub shelved-hold : AllHold shelved
 unfolding flatMap inGroups brokenAt takeWhile dropWhile constantsOf extrasOf chunksOf wordsOf digits bytesIn trimmed every heldConstants heldOps held
 shelved-hold = (refl, (refl, (refl, (refl, (refl, (refl, (refl, (refl, (refl, (refl, (refl, (refl, (refl, (refl, (refl, (refl, (refl, (refl, (refl, (refl, (refl, (refl, (refl, (refl, (refl, (refl, (refl, (refl, (refl, (refl, (refl, (refl, (refl, (refl, (refl, tt)))))))))))))))))))))))))))))))))))
+
+-- the op table
+pub grouped-hold : AllHold grouped
+unfolding flatMap inGroups upFrom digits linesOf fieldsOf numberFrom numbersOf overlapsAny inSome allKinds groupsFrom unended
+grouped-hold = (refl, (refl, (refl, (refl, (refl, (refl, (refl, (refl, (refl, (refl, (refl, (refl, (refl, (refl, (refl, (refl, (refl, (refl, (refl, (refl, (refl, (refl, (refl, (refl, (refl, (refl, (refl, (refl, (refl, (refl, (refl, (refl, (refl, (refl, (refl, (refl, (refl, (refl, (refl, (refl, tt))))))))))))))))))))))))))))))))))))))))
+
+-- the table of document 01, all 66 rows in one test
+pub table-printed : TablePrinted
+unfolding flatMap inGroups upFrom digits linesOf fieldsOf numberFrom numbersOf overlapsAny inSome allKinds groupsFrom
+table-printed = refl

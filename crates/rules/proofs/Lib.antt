@@ -43,3 +43,11 @@ pub mod Every
 pub mod Trimmed
 pub mod Written
 pub mod Lent
+pub mod DecimalLaws
+pub mod Between
+pub mod DecimalRead
+pub mod TableLines
+pub mod TableRows
+pub mod TableKinds
+pub mod TableGroups
+pub mod TableFront

@@ -10,13 +10,10 @@ use borrow.Author.Tests.{eqb-true, eqb-false, eq-eqb}
 use lib.Dec.{eqb}
 use lib.ListN.{length}
 use Rattle.rules.specs.Order.{member, Distinct, upFrom}
+use Rattle.rules.proofs.Flags.{either}
 
 abbrev pub In : ℕ → List ℕ → Type 0
 In c xs = member c xs ≡ true
-
-either : (a b : Bool) → a || b ≡ true → (a ≡ true) ⊎ (b ≡ true)
-either true b e = inl refl
-either false b e = inr e
 
 pub none : (c : ℕ) (xs : List ℕ) → (In c xs → ⊥) → member c xs ≡ false
 none c xs h = go (member c xs) refl

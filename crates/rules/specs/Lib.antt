@@ -14,9 +14,12 @@ pub mod Sheet
 pub mod Text
 pub mod Writing
 pub mod Shelf
+pub mod Table
+pub mod TableClaims
 pub mod Cases
 pub mod CalleeCases
 pub mod MarkCases
 pub mod WritingCases
+pub mod TableCases
 pub mod Paths
 pub mod Claims

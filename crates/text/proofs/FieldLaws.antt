@@ -8,7 +8,7 @@ use lib.ListN.{length, length-append}
 use Rattle.rules.specs.Outcome.{refused}
 use Rattle.rules.specs.Text.{decimal, refusedWord, space, newline, outcomeText}
 use Rattle.text.specs.Field.{fieldText}
-use Rattle.text.proofs.DecimalLaws.{decimal-length}
+use Rattle.rules.proofs.DecimalLaws.{decimal-length}
 
 pub field-length : (n end : ℕ) → length (fieldText n end) ≡ length (decimal n) + 1
 unfolding fieldText

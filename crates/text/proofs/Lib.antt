@@ -1,4 +1,3 @@
 pub mod PasteLaws
 pub mod WordsLaws
-pub mod DecimalLaws
 pub mod FieldLaws

@@ -36,6 +36,10 @@ pub pasted-holds : (xs l : List ℕ) {m : List ℕ} {r : ℕ} → m ≡ pasted 0
 unfolding pasted
 pasted-holds xs l e f = rw (e, f) (simp (length-append, length-drop) (omega arith))
 
+-- a text at the front, by another name
+pub same-text : (xs ys l : List ℕ) {m : List ℕ} {r : ℕ} → Put 0 xs l m r → xs ≡ ys → (m ≡ pasted 0 ys l) × (r ≡ length ys)
+same-text xs ys l p e = (p .0 ∙ ap (λ (t : List ℕ). pasted 0 t l) e, omega (arith, p .1, ap length e))
+
 module _ (at : ℕ) (xs l : List ℕ) (fits : at + length xs ≤ length l) where
   pub pasted-length : length (pasted at xs l) ≡ length l
   unfolding pasted

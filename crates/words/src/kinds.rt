@@ -45,6 +45,9 @@ pub const CALL_VERIFIED_NATIVE: u32 = 64;
 
 pub const CALL_EXTERNAL_NATIVE: u32 = 65;
 
+// How many kinds of ops there are.
+pub const KINDS: usize = 66;
+
 pub const MODULE: u32 = 199;
 
 pub const CHUNK: u32 = 200;

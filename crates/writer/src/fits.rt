@@ -4,6 +4,7 @@ use crate::lent::LENT_OP;
 use words::fields;
 use words::fields::is_op;
 use words::kinds;
+use words::kinds::KINDS;
 ghost use mathlib.Core.Path.{_≡_};
 ghost use mathlib.Core.Bool.{cond, _&&_};
 ghost use Prim.Native.Nat.{ℕ, _≤_};
@@ -13,9 +14,7 @@ ghost use Rattle.rules.specs.Ops.{usesA, greatestB};
 ghost use Rattle.rules.specs.Writing.{trimmed, every, constantFits, opFits, heldConstant, heldConstants, heldOps};
 ghost use Rattle.writer.specs.Size.{heldFits, constantsFit};
 
-// The kinds of ops, and the greatest a of one that uses it.
-const KINDS: usize = 66;
-
+// The greatest a of a kind that uses it.
 const MOST_A: u32 = 65535;
 
 // As many numbers as make listing the greatest fields worth its time: those of 16 ops.

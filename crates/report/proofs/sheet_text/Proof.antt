@@ -10,7 +10,8 @@ use borrow.Author.Needs.{needs}
 use borrow.Author.Tests.{ltb-true, ltb-false}
 use Rattle.rules.specs.Sheet.{sheetOutcome, sheetRoom}
 use Rattle.rules.specs.Text.{outcomeText}
-use Rattle.report.proofs.TextLaws.{same-text, odd-bytes, whole-words, words-read}
+use Rattle.text.proofs.PasteLaws.{same-text}
+use Rattle.report.proofs.TextLaws.{odd-bytes, whole-words, words-read}
 use Rattle.report.proofs.sheet_text.Statement.{statement}
 use Rattle.report.proofs.sheet_text.Tie as tie
 

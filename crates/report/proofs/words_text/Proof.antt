@@ -8,8 +8,8 @@ use Rattle.rules.specs.Text.{heading, sheetMost}
 use Rattle.words.proofs.LookupLaws.{accepted}
 use Rattle.order.specs.Search.{Readable}
 use Rattle.sheets.proofs.AnswerLaws.{zeros-blank, kept}
-use Rattle.text.proofs.PasteLaws.{then}
-use Rattle.report.proofs.TextLaws.{same-text, unread-text, refused-text, answered-text, lines-fit}
+use Rattle.text.proofs.PasteLaws.{same-text, then}
+use Rattle.report.proofs.TextLaws.{unread-text, refused-text, answered-text, lines-fit}
 use Rattle.report.proofs.words_text.Statement.{statement}
 use Rattle.report.proofs.words_text.Tie as tie
 

@@ -6,7 +6,7 @@ use native.Mathlib.Omega.{arith}
 use lib.ListN.{length}
 use borrow.Author.Needs.{needs}
 use Rattle.text.proofs.PasteLaws.{then}
-use Rattle.text.proofs.DecimalLaws.{decimal-small, decimal-more, decimal-tenth}
+use Rattle.rules.proofs.DecimalLaws.{decimal-small, decimal-more, decimal-tenth}
 use borrow.Fn.Kinds.{In, Out}
 use borrow.Fn.PlainCycle.{Measures, is, falls, and}
 use Rattle.text.proofs.put_digits.Reads as put-digits

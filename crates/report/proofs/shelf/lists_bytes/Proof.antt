@@ -10,7 +10,7 @@ use Rattle.rules.specs.Outcome.{Outcome}
 use Rattle.rules.specs.Text.{bytesIn}
 use Rattle.rules.specs.Writing.{writeOutcome}
 use Rattle.rules.specs.Shelf.{filedBytes}
-use Rattle.report.proofs.TextLaws.{same-text}
+use Rattle.text.proofs.PasteLaws.{same-text}
 use Rattle.report.proofs.ShelfLaws.{refused-filed, words-filed}
 use Rattle.report.proofs.shelf.lists_bytes.Statement.{statement}
 use Rattle.report.proofs.shelf.lists_bytes.Tie as tie

@@ -8,7 +8,7 @@ use borrow.Author.Needs.{needs}
 use borrow.Author.Tests.{not-true, not-false, eqb-true, eqb-false}
 use lib.ListN.{getD}
 use Rattle.rules.specs.Shelf.{filedBytes}
-use Rattle.report.proofs.TextLaws.{same-text}
+use Rattle.text.proofs.PasteLaws.{same-text}
 use Rattle.report.proofs.ShelfLaws.{same-filed, few-numbers, lists-apart, not-lists}
 use Rattle.report.proofs.shelf.numbers_bytes.Statement.{statement}
 use Rattle.report.proofs.shelf.numbers_bytes.Tie as tie

@@ -9,7 +9,8 @@ use borrow.Author.Needs.{needs}
 use borrow.Author.Tests.{ltb-true, ltb-false}
 use lib.ListN.{length, take, length-take}
 use Rattle.rules.specs.Shelf.{numbersOutcome, filedBytes}
-use Rattle.report.proofs.TextLaws.{same-text, words-read}
+use Rattle.text.proofs.PasteLaws.{same-text}
+use Rattle.report.proofs.TextLaws.{words-read}
 use Rattle.report.proofs.ShelfLaws.{same-filed, no-numbers, all-numbers}
 use Rattle.report.proofs.shelf.shelf_bytes.Statement.{statement}
 use Rattle.report.proofs.shelf.shelf_bytes.Tie as tie

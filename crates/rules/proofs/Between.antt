@@ -1,0 +1,14 @@
+-- A number between two others, as a test and as facts. Assumes nothing.
+use mathlib.Core.Path.{_≡_}
+use mathlib.Core.Bool.{true}
+use Prim.Native.Nat.{ℕ, _≤_}
+use borrow.Author.Tests.{leb-true, le-leb}
+use lib.Dec.{leb}
+use Rattle.rules.specs.Ops.{between}
+use Rattle.rules.proofs.Flags.{both}
+
+pub within : (k l n : ℕ) → between k l n ≡ true → (k ≤ n) × (n ≤ l)
+within k l n e = let g = both (leb k n) (leb n l) e in (leb-true k n (g .0), leb-true n l (g .1))
+
+pub is-within : (k l n : ℕ) → k ≤ n → n ≤ l → between k l n ≡ true
+is-within k l n a b = rw (le-leb k n a, le-leb n l b)
