@@ -66,7 +66,13 @@ pub record Read (line : List ℕ) (numbers : List ℕ) (at i : ℕ) : Type 0 whe
 
 module _ (line : List ℕ) where
   pub read-none : (numbers : List ℕ) → length numbers ≡ 5 → Read line numbers 0 0
-  read-none numbers h = record { five-fields = h; upto = omega arith; near = omega arith; rest = rw (le-leb 0 (length line) (omega arith), behind-none (numbersOf (fieldsOf line))) }
+  read-none numbers h =
+      record {
+        five-fields = h;
+        upto = omega arith;
+        near = omega arith;
+        rest = rw (le-leb 0 (length line) (omega arith), behind-none (numbersOf (fieldsOf line)));
+      }
 
   module _ {numbers : List ℕ} {at i : ℕ} (r : Read line numbers at i) where
     -- no field is left

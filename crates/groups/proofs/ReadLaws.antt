@@ -20,7 +20,7 @@ use Rattle.rules.proofs.TableRows.{rows-same}
 use Rattle.groups.specs.declared.line.Group.{Group}
 use Rattle.groups.specs.declared.rows.Table.{Table}
 use Rattle.groups.specs.Line.{before, groupIs}
-use Rattle.groups.specs.Rows.{takenAt, figuresAt, Room, Blank, With}
+use Rattle.groups.specs.Rows.{takenAt, figuresAt, Rooms, Blank, With}
 use Rattle.groups.specs.declared.Groups.{Groups}
 use Rattle.groups.specs.Groups.{groupsIs}
 use Rattle.groups.proofs.SplitLaws.{before-front, end-within, first-line}
@@ -29,7 +29,7 @@ use Rattle.groups.proofs.SplitLaws.{before-front, end-within, first-lin
 pub record Lined (bytes : List ℕ) (t : Table) (at lines : ℕ) : Type 0 where
   pub few : lines ≤ at
   pub near : at ≤ suc (length bytes)
-  pub room : Room t
+  pub room : Rooms t
   pub groups : List Ops.Group
   pub upward : Each (λ h. h .first ≤ h .last) groups
   pub taken : (k : ℕ) → k < kindCount → takenAt t k ≡ inSome groups k

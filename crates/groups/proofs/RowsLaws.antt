@@ -12,7 +12,7 @@ use Rattle.rules.specs.Table.{kindCount}
 use Rattle.groups.specs.declared.line.Group.{Group}
 use Rattle.groups.specs.declared.rows.Table.{Table}
 use Rattle.groups.specs.Line.{groupIs}
-use Rattle.groups.specs.Rows.{takenAt, figuresAt, Room, With}
+use Rattle.groups.specs.Rows.{takenAt, figuresAt, Rooms, With}
 
 pub all-same : {A : Type 0} (n k : ℕ) (a : A) → getD (replicate n a) k a ≡ a
 all-same zero k a = refl
@@ -51,7 +51,7 @@ without-more {t} {first} {k} {is} w other =
 pub record Upto (t : Table) (g : Group) (k : ℕ) (r : Table) : Type 0 where
   pub within : (j : ℕ) → g .first ≤ j → j < k → j ≤ g .last
   pub from : g .first ≤ k
-  pub room : Room r
+  pub room : Rooms r
   pub in-taken : (j : ℕ) → g .first ≤ j → j < k → takenAt r j ≡ true
   pub in-rows : (j : ℕ) → g .first ≤ j → j < k → figuresAt r j ≡ groupIs g .cost
   pub out-taken : (j : ℕ) → (g .first ≤ j → j < k → ⊥) → takenAt r j ≡ takenAt t j
@@ -66,7 +66,7 @@ other-row : (r : Table) (k j : ℕ) (g : Group) → (j ≡ k → ⊥) → figure
 other-row r k j g h =
     rw (getD-set-other (r .cycles) k j (g .cycles) 0 h, getD-set-other (r .growth) k j (g .growth) 0 h, getD-set-other (r .shrink) k j (g .shrink) 0 h)
 
-pub upto-none : (t : Table) (g : Group) → Room t → Upto t g (g .first) t
+pub upto-none : (t : Table) (g : Group) → Rooms t → Upto t g (g .first) t
 upto-none t g room =
     record {
       within = λ j a b. absurd (omega arith);
@@ -114,8 +114,10 @@ module _ {t : Table} {g : Group} {k : ℕ} {r : Table} (u : Upto t g k r) where
   upto-all past =
       record {
         room = u .room;
-        taken = λ j h. by-kind j (λ b. takenAt r j ≡ (b || takenAt t j)) (λ a b. u .in-taken j a (omega arith)) (λ o. u .out-taken j (λ a b. o a (u .within j a b)));
-        rows = λ j h. by-kind j (λ b. figuresAt r j ≡ cond b (groupIs g .cost) (figuresAt t j)) (λ a b. u .in-rows j a (omega arith)) (λ o. u .out-rows j (λ a b. o a (u .within j a b)));
+        taken = λ j h. by-kind j (λ b. takenAt r j ≡ (b || takenAt t j)) (λ a b. u .in-taken j a (omega arith))
+            (λ o. u .out-taken j (λ a b. o a (u .within j a b)));
+        rows = λ j h. by-kind j (λ b. figuresAt r j ≡ cond b (groupIs g .cost) (figuresAt t j)) (λ a b. u .in-rows j a (omega arith))
+            (λ o. u .out-rows j (λ a b. o a (u .within j a b)));
       }
     where
       by-kind : (j : ℕ) (P : Bool → Type 0) → (g .first ≤ j → j ≤ g .last → P true) → ((g .first ≤ j → j ≤ g .last → ⊥) → P false)

@@ -21,7 +21,7 @@ abbrev pub figuresAt : Table → ℕ → Ops.Figures
 figuresAt t k = Ops.figures (getD (t .cycles) k 0) (getD (t .growth) k 0) (getD (t .shrink) k 0)
 
 -- there is room for every kind
-pub record Room (t : Table) : Type 0 where
+pub record Rooms (t : Table) : Type 0 where
   pub in-taken : length (t .taken) ≡ kindCount
   pub in-cycles : length (t .cycles) ≡ kindCount
   pub in-growth : length (t .growth) ≡ kindCount
@@ -29,12 +29,12 @@ pub record Room (t : Table) : Type 0 where
 
 -- no kind has a row
 pub record Blank (t : Table) : Type 0 where
-  pub room : Room t
+  pub room : Rooms t
   pub taken : (k : ℕ) → takenAt t k ≡ false
   pub rows : (k : ℕ) → figuresAt t k ≡ Ops.figures 0 0 0
 
 -- the kinds of g have its row, the others are left
 pub record With (t : Table) (g : Group) (r : Table) : Type 0 where
-  pub room : Room r
+  pub room : Rooms r
   pub taken : (k : ℕ) → k < kindCount → takenAt r k ≡ (Ops.between (g .first) (g .last) k || takenAt t k)
   pub rows : (k : ℕ) → k < kindCount → figuresAt r k ≡ cond (Ops.between (g .first) (g .last) k) (groupIs g .cost) (figuresAt t k)

@@ -9,7 +9,7 @@ ghost use lib.ListN.{length};
 ghost use Rattle.rules.specs.Ops.{figures};
 ghost use Rattle.rules.specs.Table.{kindCount, tableLine, tableRows};
 ghost use Rattle.text.specs.Paste.{Put};
-ghost use Rattle.groups.specs.Rows.{Room, Blank, With, takenAt, figuresAt, rowMost};
+ghost use Rattle.groups.specs.Rows.{Rooms, Blank, With, takenAt, figuresAt, rowMost};
 
 // The most bytes of a row: two digits, three numbers of ten, and a byte behind each.
 pub const ROW: usize = 36;
@@ -53,7 +53,7 @@ pub fn some_kind(table: Table, first: u32, last: u32, is: bool) -> bool
 
 // The rows with those of a group more.
 pub fn with_group(table: Table, g: Group) -> Table
-    requires { ⌜ Room table × (g .last < kindCount) ⌝ }
+    requires { ⌜ Rooms table × (g .last < kindCount) ⌝ }
     ensures { λ r. ⌜ With table g r ⌝ }
 {
     let mut t = table;

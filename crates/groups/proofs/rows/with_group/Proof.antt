@@ -15,7 +15,8 @@ abbrev μ-loop : tie.MeasureT-loop
 pub with-group-spec : {M : Type 1} → statement M
 with-group-spec =
     tie.close
-    (tie.spec Inv-loop μ-loop (λ c. search needs) (λ c. search needs) (λ c. upto-none _ _ (c .before .before .pre .0)) (λ c. search needs) (λ c. search needs) (λ c. search needs)
-    (λ c. search needs) (λ c. search needs) (λ c. search needs) (λ c. search needs) (λ c. search needs) (λ c. search needs)
+    (tie.spec Inv-loop μ-loop (λ c. search needs) (λ c. search needs) (λ c. upto-none _ _ (c .before .before .pre .0)) (λ c. search needs)
+    (λ c. search needs) (λ c. search needs) (λ c. search needs) (λ c. search needs) (λ c. search needs) (λ c. search needs) (λ c. search needs)
+    (λ c. search needs)
     (λ c. upto-more (c .before .loop .inv) (c .loop-test .taken) (omega (arith, c .loop-test .taken, c .before .before .before .before .pre .1)))
     (λ c. upto-all (c .before .loop .inv) (c .loop-test .left)))
