@@ -14,7 +14,7 @@ use Rattle.rules.specs.Ops.{Group, group}
 use Rattle.rules.specs.Text.{space}
 use Rattle.rules.specs.Table.{FieldNumbers, allNumbers, broken, fieldsOf, numberOf, oneMore, numbersOf, noGroup, isGroup, groupIf, five, groupFrom, groupOf}
 use Rattle.groups.specs.Line.{before, fieldsFrom}
-use Rattle.groups.proofs.SplitLaws.{end-within, no-field, next-field}
+use Rattle.groups.proofs.SplitLaws.{no-field, next-field}
 
 -- numbers in front of those of other fields
 abbrev behind : List ℕ → FieldNumbers → FieldNumbers
@@ -61,7 +61,6 @@ just (k ∷ l ∷ c ∷ g ∷ s ∷ x ∷ xs) h = absurd (omega arith)
 pub record Read (line : List ℕ) (numbers : List ℕ) (at i : ℕ) : Type 0 where
   pub five-fields : length numbers ≡ 5
   pub upto : i ≤ 5
-  pub near : at ≤ suc (length line)
   pub rest : groupOf line ≡ groupFrom (behind (take i numbers) (numbersOf (fieldsFrom line at)))
 
 module _ (line : List ℕ) where
@@ -70,7 +69,6 @@ module _ (line : List ℕ) where
       record {
         five-fields = h;
         upto = omega arith;
-        near = omega arith;
         rest = rw (le-leb 0 (length line) (omega arith), behind-none (numbersOf (fieldsOf line)));
       }
 
@@ -94,7 +92,6 @@ module _ (line : List ℕ) where
           record {
             five-fields = length-set numbers i n ∙ r .five-fields;
             upto = omega arith;
-            near = omega (arith, end-within space at e line h is);
             rest = rw (add-one e, add-one i)
                 (r .rest ∙ rw (next-field line at h e is, m)
                 (ap groupFrom (behind-more numbers i n (numbersOf (fieldsFrom line (suc e))) (omega (arith, r .five-fields)))));

@@ -23,12 +23,11 @@ use Rattle.groups.specs.Line.{before, groupIs}
 use Rattle.groups.specs.Rows.{takenAt, figuresAt, Rooms, Blank, With}
 use Rattle.groups.specs.declared.Groups.{Groups}
 use Rattle.groups.specs.Groups.{groupsIs}
-use Rattle.groups.proofs.SplitLaws.{before-front, end-within, first-line}
+use Rattle.groups.proofs.SplitLaws.{before-front, first-line}
 
 -- after some lines: the rows are those of their groups, and the lines from place `at` on are left
 pub record Lined (bytes : List ℕ) (t : Table) (at lines : ℕ) : Type 0 where
   pub few : lines ≤ at
-  pub near : at ≤ suc (length bytes)
   pub room : Rooms t
   pub groups : List Ops.Group
   pub upward : Each (λ h. h .first ≤ h .last) groups
@@ -41,7 +40,6 @@ unfolding inSome Ops.inGroups
 lined-none bytes b =
     record {
       few = omega arith;
-      near = omega arith;
       room = b .room;
       groups = [];
       upward = tt;
@@ -97,7 +95,6 @@ module _ {bytes : List ℕ} {t : Table} {at lines : ℕ} (s : Lined bytes t at l
       lined-more {r} none w =
           record {
             few = omega (arith, s .few);
-            near = omega (arith, end-within newline at e bytes (omega arith) is);
             room = w .room;
             groups = groupIs g ∷ s .groups;
             upward = (fits .upward, s .upward);

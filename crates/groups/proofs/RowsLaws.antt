@@ -60,7 +60,12 @@ pub record Upto (t : Table) (g : Group) (k : ℕ) (r : Table) : Type 0 where
 -- the rows with that of kind k written
 abbrev put : Table → ℕ → Group → Table
 put r k g =
-    record { taken = set (r .taken) k true; cycles = set (r .cycles) k (g .cycles); growth = set (r .growth) k (g .growth); shrink = set (r .shrink) k (g .shrink) }
+    record {
+      taken = set (r .taken) k true;
+      cycles = set (r .cycles) k (g .cycles);
+      growth = set (r .growth) k (g .growth);
+      shrink = set (r .shrink) k (g .shrink);
+    }
 
 other-row : (r : Table) (k j : ℕ) (g : Group) → (j ≡ k → ⊥) → figuresAt (put r k g) j ≡ figuresAt r j
 other-row r k j g h =
@@ -106,7 +111,8 @@ module _ {t : Table} {g : Group} {k : ℕ} {r : Table} (u : Upto t g k r) where
           | yes l ↦ other-row r k j g (λ e. absurd (omega arith)) ∙ u .in-rows j a l
           | no l ↦ let e : j ≡ k = omega arith in rw e (same-row h)
         ];
-        out-taken = λ j o. getD-set-other (r .taken) k j true false (λ e. o (omega (arith, u .from)) (omega arith)) ∙ u .out-taken j (λ a b. o a (omega arith));
+        out-taken = λ j o. getD-set-other (r .taken) k j true false (λ e. o (omega (arith, u .from)) (omega arith))
+            ∙ u .out-taken j (λ a b. o a (omega arith));
         out-rows = λ j o. other-row r k j g (λ e. o (omega (arith, u .from)) (omega arith)) ∙ u .out-rows j (λ a b. o a (omega arith));
       }
 
