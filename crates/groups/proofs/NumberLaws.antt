@@ -2,16 +2,18 @@
 use mathlib.Core.Path.{_≡_, refl, sym, _∙_}
 use mathlib.Core.Bool.{Bool, true, false, cond}
 use mathlib.Core.List.{List, [], _∷_}
-use mathlib.Core.Logic.{_⊎_, inl, inr}
-use Prim.Native.Nat.{ℕ, _+_, _-_, _*_, _<_, _≤_}
+use mathlib.Core.Logic.{_⊎_, ⊎-elim}
+use Prim.Native.Nat.{ℕ, suc, _+_, _-_, _*_, _<_, _≤_}
 use native.Mathlib.Numerals.{add-one}
 use native.Mathlib.Omega.{arith}
-use borrow.Author.Tests.{eq-eqb, ne-eqb, le-leb, lt-leb}
+use borrow.Author.Tests.{eq-eqb, ne-eqb, lt-leb}
 use lib.ListN.{length, getD, drop, drop-of-length-le}
 use lib.Seq.{drop-cons}
 use Rattle.rules.specs.Outcome.{found, nothing}
 use Rattle.rules.specs.Ops.{between}
 use Rattle.rules.specs.Table.{mostNumber, numberFrom, numberOf}
+use Rattle.rules.proofs.Between.{outside}
+use Rattle.rules.proofs.DecimalRead.{digit-read, found-most}
 
 -- no digit, and a zero alone or before others
 pub number-empty : (xs : List ℕ) → length xs ≡ 0 → numberOf xs ≡ nothing
@@ -52,8 +54,7 @@ number-begin (x ∷ y ∷ ys) h e = record { most = omega arith; same = simp (ne
 -- by the byte at place i, or where the field ends
 module _ {xs : List ℕ} {n i : ℕ} (d : Digits xs n i) where
   next : i < length xs → 48 ≤ getD xs i 0 → getD xs i 0 ≤ 57 → numberOf xs ≡ numberFrom (10 * n + (getD xs i 0 - 48)) (drop (i + 1) xs)
-  unfolding numberFrom
-  next h a b = rw (add-one i) (d .same ∙ rw (drop-cons xs i 0 h) (simp (le-leb 48 (getD xs i 0) a, le-leb (getD xs i 0) 57 b)))
+  next h a b = rw (add-one i) (d .same ∙ rw (drop-cons xs i 0 h) (digit-read n (getD xs i 0) (drop (suc i) xs) a b))
 
   pub number-digit : i < length xs → 48 ≤ getD xs i 0 → getD xs i 0 ≤ 57 → 10 * n + (getD xs i 0 - 48) ≤ mostNumber
       → Digits xs (10 * n + (getD xs i 0 - 48)) (i + 1)
@@ -64,9 +65,9 @@ module _ {xs : List ℕ} {n i : ℕ} (d : Digits xs n i) where
 
   pub number-other : i < length xs → (getD xs i 0 < 48) ⊎ (57 < getD xs i 0) → nothing ≡ numberOf xs
   unfolding numberFrom
-  number-other h (inl a) = sym (d .same ∙ rw (drop-cons xs i 0 h) (simp (lt-leb 48 (getD xs i 0) a)))
-  number-other h (inr a) = sym (d .same ∙ rw (drop-cons xs i 0 h) (simp (lt-leb (getD xs i 0) 57 a, le-leb 48 (getD xs i 0) (omega arith))))
+  number-other h o =
+      let other = outside 48 57 (getD xs i 0) (λ a b. ⊎-elim (λ t. absurd (omega arith)) (λ t. absurd (omega arith)) o) in
+      sym (d .same ∙ rw (drop-cons xs i 0 h, other))
 
   pub number-end : length xs ≤ i → found n ≡ numberOf xs
-  unfolding numberFrom
-  number-end h = sym (d .same ∙ rw (drop-of-length-le xs h) (simp (le-leb n mostNumber (d .most))))
+  number-end h = sym (d .same ∙ rw (drop-of-length-le xs h) (found-most n (d .most)))

@@ -23,7 +23,7 @@ use Rattle.groups.specs.Line.{before, groupIs}
 use Rattle.groups.specs.Rows.{takenAt, figuresAt, Rooms, Blank, With}
 use Rattle.groups.specs.declared.Groups.{Groups}
 use Rattle.groups.specs.Groups.{groupsIs}
-use Rattle.groups.proofs.SplitLaws.{before-front, first-line}
+use Rattle.groups.proofs.SplitLaws.{before-front, line-before}
 
 -- after some lines: the rows are those of their groups, and the lines from place `at` on are left
 pub record Lined (bytes : List ℕ) (t : Table) (at lines : ℕ) : Type 0 where
@@ -55,7 +55,7 @@ next-line bytes at e h is =
     let n = length (before newline (drop at bytes)) in
     let behind : e + 1 ≡ at + suc n = omega arith in
     rw (
-      first-line (drop at bytes) (omega (arith, length-drop at bytes)),
+      line-before (drop at bytes) (omega (arith, length-drop at bytes)),
       behind,
       ← drop-drop (suc n) at bytes,
       is,

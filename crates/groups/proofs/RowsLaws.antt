@@ -1,14 +1,14 @@
 -- The rows by kind: none, those of a group written one a turn, a kind looked for, and how long a row is. Assumes nothing.
-use mathlib.Core.Path.{_≡_, refl, _∙_}
+use mathlib.Core.Path.{_≡_, refl, sym, _∙_}
 use mathlib.Core.Bool.{Bool, true, false, cond, _||_, Bool·beq, true≢false, false≢true}
 use Prim.Native.Nat.{ℕ, zero, suc, _+_, _<_, _≤_}
-use native.Mathlib.Decide.{decLt, decLe}
+use native.Mathlib.Decide.{decLt}
 use native.Mathlib.Omega.{arith}
-use borrow.Author.Tests.{le-leb, lt-leb}
 use lib.ListN.{getD, set, replicate, length-set}
 use lib.Seq.{getD-set-same, getD-set-other}
 use Rattle.rules.specs.Ops as Ops
 use Rattle.rules.specs.Table.{kindCount}
+use Rattle.rules.proofs.Between.{within, is-within}
 use Rattle.groups.specs.declared.line.Group.{Group}
 use Rattle.groups.specs.declared.rows.Table.{Table}
 use Rattle.groups.specs.Line.{groupIs}
@@ -128,11 +128,8 @@ module _ {t : Table} {g : Group} {k : ℕ} {r : Table} (u : Upto t g k r) where
     where
       by-kind : (j : ℕ) (P : Bool → Type 0) → (g .first ≤ j → j ≤ g .last → P true) → ((g .first ≤ j → j ≤ g .last → ⊥) → P false)
           → P (Ops.between (g .first) (g .last) j)
-      by-kind j P inside outside =
-          elim (decLe (g .first) j) [
-            | yes a ↦ elim (decLe j (g .last)) [
-              | yes b ↦ rw (le-leb (g .first) j a, le-leb j (g .last) b) (inside a b)
-              | no b ↦ rw (le-leb (g .first) j a, lt-leb j (g .last) (omega arith)) (outside (λ x y. b y))
-            ]
-            | no a ↦ rw (lt-leb (g .first) j (omega arith)) (outside (λ x y. a x))
-          ]
+      by-kind j P inside outside = go (Ops.between (g .first) (g .last) j) refl
+        where
+          go : (b : Bool) → Ops.between (g .first) (g .last) j ≡ b → P b
+          go true e = let w = within (g .first) (g .last) j e in inside (w .0) (w .1)
+          go false e = outside (λ a b. true≢false (sym (is-within (g .first) (g .last) j a b) ∙ e))

@@ -1,11 +1,12 @@
 -- The parts of a line as the code finds them, and what its answers stand for.
-use mathlib.Core.Bool.{cond}
-use mathlib.Core.List.{List, [], _∷_}
+use mathlib.Core.Bool.{not, cond}
+use mathlib.Core.List.{List, []}
 use Prim.Native.Nat.{ℕ}
 use lib.Dec.{eqb, leb}
 use lib.ListN.{length, drop}
 use Rattle.rules.specs.Outcome.{Found, found, nothing}
 use Rattle.rules.specs.Ops as Ops
+use Rattle.rules.specs.Reading.{takeWhile}
 use Rattle.rules.specs.Table as Table
 use Rattle.groups.specs.declared.line.Group.{Group}
 use Rattle.groups.specs.declared.line.Number.{Number}
@@ -14,9 +15,8 @@ use Rattle.groups.specs.declared.line.LineGroup.{LineGroup}
 use Rattle.groups.specs.declared.line.LineGroup.the-variants as LineGroup
 
 -- what stands before the first byte s, or all of it
-unfoldable pub before : ℕ → List ℕ → List ℕ
-before s [] = []
-before s (x ∷ xs) = cond (eqb x s) [] (x ∷ before s xs)
+abbrev pub before : ℕ → List ℕ → List ℕ
+before s xs = takeWhile (λ x. not (eqb x s)) xs
 
 -- the fields of a line from place `at` on; there are none behind its end
 abbrev pub fieldsFrom : List ℕ → ℕ → List (List ℕ)

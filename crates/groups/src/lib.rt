@@ -1,6 +1,6 @@
 // What the program `optable` prints, from the bytes that it read.
 pub mod line;
-pub mod rows;
+mod rows;
 
 use line::LineGroup;
 use line::end_of;

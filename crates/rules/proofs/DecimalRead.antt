@@ -42,7 +42,7 @@ first-digit =
     (λ n h r. (r .0, r .1 ++ ((48 + n % 10) ∷ []), decimal-more n h ∙ ap (λ (l : List ℕ). l ++ ((48 + n % 10) ∷ [])) (r .2), λ k. r .3 (omega arith)))
 
 -- one digit read
-digit-read : (m x : ℕ) (xs : List ℕ) → 48 ≤ x → x ≤ 57 → numberFrom m (x ∷ xs) ≡ numberFrom (10 * m + (x - 48)) xs
+pub digit-read : (m x : ℕ) (xs : List ℕ) → 48 ≤ x → x ≤ 57 → numberFrom m (x ∷ xs) ≡ numberFrom (10 * m + (x - 48)) xs
 unfolding numberFrom
 digit-read m x xs a b = rw (is-within 48 57 x a b)
 
@@ -59,7 +59,7 @@ led : (x : ℕ) (xs : List ℕ) → 49 ≤ x → numberOf (x ∷ xs) ≡ numberF
 led x [] h = refl
 led x (y ∷ ys) h = rw (ne-eqb x 48 (λ e. omega arith))
 
-found-most : (n : ℕ) → n ≤ mostNumber → numberFrom n [] ≡ found n
+pub found-most : (n : ℕ) → n ≤ mostNumber → numberFrom n [] ≡ found n
 unfolding numberFrom
 found-most n h = rw (le-leb n mostNumber h)
 

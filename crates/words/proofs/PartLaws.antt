@@ -22,7 +22,7 @@ use Rattle.rules.proofs.ReadingAgrees.{read-words}
 use Rattle.words.specs.declared.parts.Parts.{Parts}
 use Rattle.words.specs.Parts.{ofKinds, runOf, behindRun, partsAt, partOf, headAt, PartsOf}
 use Rattle.words.proofs.Cases.{split}
-use Rattle.words.proofs.RunLaws.{outside}
+use Rattle.rules.proofs.Between.{outside}
 
 -- the tests of the parts are tests of stretches
 of-constants : ofKinds 202 203 ≡ ofConstants

@@ -1,24 +1,19 @@
 -- The words at the front of a list whose kinds lie between two: one word more, and where they stop.
 -- Assumes nothing.
 use mathlib.Core.Path.{_≡_}
-use mathlib.Core.Bool.{Bool, false, and-false}
+use mathlib.Core.Bool.{Bool}
 use mathlib.Core.List.{List, [], _∷_}
 use Prim.Native.Nat.{ℕ, suc, _+_, _<_, _≤_}
 use native.Mathlib.Numerals.{add-one}
 use native.Mathlib.Omega.{arith}
-use borrow.Author.Tests.{le-leb, lt-leb, leb-true}
-use lib.Dec.{leb}
+use borrow.Author.Tests.{le-leb}
 use lib.ListN.{length, getD, drop, drop-of-length-le, length-drop}
 use lib.Seq.{drop-cons}
-use Rattle.rules.specs.Ops.{kind, between}
+use Rattle.rules.specs.Ops.{kind}
 use Rattle.rules.specs.Reading.{takeWhile}
+use Rattle.rules.proofs.Between.{outside}
 use Rattle.words.specs.Parts.{ofKinds, runOf}
 use Rattle.words.proofs.Cases.{decide}
-
--- a kind outside a stretch
-pub outside : (low high k : ℕ) → (low ≤ k → k ≤ high → ⊥) → between low high k ≡ false
-outside low high k h =
-    decide (leb low k) (λ a. let over : k ≤ high → ⊥ = h (leb-true low k a) in simp (lt-leb k high (omega arith), and-false)) (λ a. simp a)
 
 module _ (low high : ℕ) (ws : List ℕ) (i : ℕ) where
   pub run-more : i < length ws → low ≤ kind (getD ws i 0) → kind (getD ws i 0) ≤ high
@@ -35,7 +30,7 @@ module _ (low high : ℕ) (ws : List ℕ) (i : ℕ) where
   run-end h = rw (drop-of-length-le ws h)
 
 -- a run is no longer than the list
-run-length : (f : ℕ → Bool) (ws : List ℕ) → length (takeWhile f ws) ≤ length ws
+pub run-length : (f : ℕ → Bool) (ws : List ℕ) → length (takeWhile f ws) ≤ length ws
 unfolding takeWhile
 run-length f [] = omega arith
 run-length f (w ∷ ws) = decide (f w) (λ e. rw e (omega (arith, run-length f ws))) (λ e. rw e (omega arith))
