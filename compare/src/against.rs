@@ -12,10 +12,12 @@ mod counts;
 mod document;
 mod every;
 mod exact;
+mod expected;
 mod form;
 #[allow(dead_code)]
 mod kinds;
 mod limits;
+mod loops;
 mod nesting;
 #[path = "standin/passes.rs"]
 mod passes;
@@ -31,6 +33,9 @@ mod random;
 mod refusals;
 #[allow(dead_code)]
 mod rounds;
+mod stands;
+mod stepping;
+mod steps;
 mod store;
 mod strays;
 mod table;
@@ -219,20 +224,29 @@ fn random_modules(counts: &mut Counts, random: &mut Random, modules: u64) {
     }
 }
 
+/// So many random modules there are to one more whose steps are drawn.
+const TO_ONE_STEPPING: u64 = 15;
+
+/// Says of each part how many modules and differences it had, and how long it took up to its end.
+fn teller() -> impl FnMut(&str, &Counts) {
+    let start = std::time::Instant::now();
+    let mut before = (0, 0);
+    move |part, counts| {
+        println!(
+            "{part}: {} modules, {} differences, {} s",
+            counts.modules - before.0,
+            counts.differences - before.1,
+            start.elapsed().as_secs()
+        );
+        before = (counts.modules, counts.differences);
+    }
+}
+
 fn run(seed: u64, modules: u64) -> bool {
     let mut random = Random(seed);
     let mut counts = Counts::default();
+    let mut told = teller();
     println!("seed {seed}");
-    let start = std::time::Instant::now();
-    let mut before = 0;
-    let mut told = |what: &str, counts: &Counts| {
-        println!(
-            "{what}: {} modules, {} s",
-            counts.modules - before,
-            start.elapsed().as_secs()
-        );
-        before = counts.modules;
-    };
     tables(&mut counts);
     worked(&mut counts);
     apart::all(&mut counts);
@@ -249,6 +263,8 @@ fn run(seed: u64, modules: u64) -> bool {
     told("changes of counted loops", &counts);
     random_modules(&mut counts, &mut random, modules);
     told("random modules", &counts);
+    steps::all(&mut counts, seed, modules / TO_ONE_STEPPING);
+    told("loops that step", &counts);
     counts.print();
     times::print();
     println!(

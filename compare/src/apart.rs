@@ -1,11 +1,12 @@
 //! The smallest inputs of docs/DIFFERENCES.md, on which document 01 and the original part: what each of the two says.
 use crate::case::Case;
 use crate::counts::Counts;
+use crate::expected::refused;
 use crate::form::{Chunk, Op};
 use crate::kinds::*;
 use crate::pieces::{chunk, chunk_l, op, ops};
 use crate::refusals::*;
-use crate::table::{COMPARISONS, Outcome, refused};
+use crate::table::{COMPARISONS, Outcome};
 use crate::verify::oracle;
 use Outcome::{Answer, Refused};
 
@@ -134,6 +135,24 @@ fn strays() -> Vec<Part> {
     ]
 }
 
+/// The original does not divide a loop's distance by its step.
+fn steps() -> Vec<Part> {
+    let stepping = |name, constants: [i64; 3], cycles, original| Part {
+        name,
+        of: Cycles,
+        chunk: chunk_l(&constants),
+        callee: 0,
+        ours: answer(cycles, true),
+        original,
+    };
+    let far = 1 << 33;
+    let none = Refused(NO_COUNT, 0, 4);
+    vec![
+        stepping("chunk L by twos", [0, 3, 2], 36, answer(48, true)),
+        stepping("a distance of one step", [0, far, far], 24, none),
+    ]
+}
+
 /// What the original's public functions do beside the walk.
 fn functions() -> Vec<Part> {
     let held = |mode, ops| chunk(mode, 0, &[], ops);
@@ -172,7 +191,8 @@ fn functions() -> Vec<Part> {
 
 /// Each input has to give both answers.
 pub fn all(counts: &mut Counts) {
-    for part in [rows(), strays(), functions()].into_iter().flatten() {
+    let parts = [rows(), strays(), steps(), functions()];
+    for part in parts.into_iter().flatten() {
         let case = Case::new(crate::form::write(&[part.chunk]), vec![part.callee]);
         let row = if part.of == Stack { "stack" } else { "cycles" };
         let comparison = COMPARISONS.iter().find(|held| held.name == row);

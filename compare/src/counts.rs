@@ -1,7 +1,9 @@
 //! Makes the comparisons of a module, and counts their outcomes.
 use crate::case::{self, Case};
+use crate::expected::Expected;
 use crate::kinds::LOOP;
-use crate::table::{COMPARISONS, Each, Expected, Outcome};
+use crate::stands::{self, Stands};
+use crate::table::{COMPARISONS, Comparison, Each, Outcome};
 use std::collections::BTreeMap;
 
 /// An outcome as it is counted.
@@ -10,6 +12,24 @@ enum Met {
     Answer,
     Refusal(u32),
     Apart(&'static str),
+    Stepping(Stands),
+}
+
+/// What ours counts as, and what it has to be. Where a loop steps by another number than 1 it counts by how it stands to the original's, and where it may not
+/// stand so, that is shown for what it has to be.
+fn met(case: &Case, of: &Comparison, ours: &Outcome, expected: Expected) -> (Met, Outcome) {
+    match expected {
+        Expected::Same(outcome @ Outcome::Answer(_)) => (Met::Answer, outcome),
+        Expected::Same(outcome @ Outcome::Refused(number, ..)) => (Met::Refusal(number), outcome),
+        Expected::Same(Outcome::Spoilt) => panic!("the original has no lent buffer"),
+        Expected::Apart(reason, outcome) => (Met::Apart(reason), outcome),
+        Expected::Stepping(outcome, original) => {
+            match stands::how(case, of.each, of.is_figure, ours, &original) {
+                Stands::Against => (Met::Stepping(Stands::Against), original),
+                how => (Met::Stepping(how), outcome),
+            }
+        }
+    }
 }
 
 /// Each position of a chunk, and some behind it; of a long module the Loops alone, since the proved count reads the words anew at each.
@@ -54,24 +74,18 @@ impl Counts {
 
     fn one(&mut self, row: usize, case: &Case, c: usize, p: usize) {
         let comparison = &COMPARISONS[row];
-        let (met, expected) = match (comparison.original)(case, c, p) {
-            Expected::Same(outcome @ Outcome::Answer(_)) => (Met::Answer, outcome),
-            Expected::Same(outcome @ Outcome::Refused(number, ..)) => {
-                (Met::Refusal(number), outcome)
-            }
-            Expected::Same(Outcome::Spoilt) => panic!("the original has no lent buffer"),
-            Expected::Apart(reason, outcome) => (Met::Apart(reason), outcome),
-        };
+        let expected = (comparison.original)(case, c, p);
         let ours = (comparison.ours)(case, c, p);
+        let (met, expected) = met(case, comparison, &ours, expected);
         self.comparisons += 1;
         *self.met.entry((row, met)).or_default() += 1;
         if ours != expected {
-            self.differ(
-                comparison.name,
-                &ours,
-                &expected,
-                &format!("chunk {c}, position {p}"),
-            );
+            let stepping = match met {
+                Met::Stepping(how) => format!(", stepping, {how}"),
+                _ => String::new(),
+            };
+            let at = format!("chunk {c}, position {p}{stepping}");
+            self.differ(comparison.name, &ours, &expected, &at);
             self.show(case);
         }
     }
@@ -98,20 +112,22 @@ impl Counts {
         }
     }
 
-    /// One line for each comparison.
+    /// One line for each comparison, and behind it one for those in which a loop steps by another number than 1.
     pub fn print(&self) {
         for (row, comparison) in COMPARISONS.iter().enumerate() {
-            let line: Vec<String> = self
-                .met
-                .iter()
-                .filter(|((of, _), _)| *of == row)
-                .map(|((_, met), n)| match met {
-                    Met::Answer => format!("{n} answers"),
-                    Met::Refusal(number) => format!("{n} refused by {number}"),
-                    Met::Apart(reason) => format!("{n} apart ({reason})"),
-                })
-                .collect();
+            let (mut line, mut stepping) = (Vec::new(), Vec::new());
+            for ((_, met), n) in self.met.iter().filter(|((of, _), _)| *of == row) {
+                match met {
+                    Met::Answer => line.push(format!("{n} answers")),
+                    Met::Refusal(number) => line.push(format!("{n} refused by {number}")),
+                    Met::Apart(reason) => line.push(format!("{n} apart ({reason})")),
+                    Met::Stepping(how) => stepping.push(format!("{n} {how}")),
+                }
+            }
             println!("{}: {}", comparison.name, line.join(", "));
+            if !stepping.is_empty() {
+                println!("{}, stepping: {}", comparison.name, stepping.join(", "));
+            }
         }
     }
 }

@@ -1,14 +1,20 @@
 //! The uncapped cycles of a chunk, by document 01's rules as plain Rust reads them over positions: request 2.5's mark says whether they are over 4,294,967,295.
-//! Nothing here is taken from the original but the counts of loops, which are handed in. Sums and products stop at 2^128 - 1: the mark is the same for any cap
-//! above 4,294,967,295.
+//! Nothing here is taken from the original but the counts of loops, which are handed in: the original's, or where a loop steps by another number than 1 those
+//! of request 2.7. Sums and products stop at 2^128 - 1: the mark is the same for any cap above 4,294,967,295.
 use crate::document;
 use crate::form::Chunk;
 use crate::kinds::*;
 
-/// A chunk that the original walks without a refusal, and the count of the Loop at a position.
+/// A chunk that is walked without a refusal, what each callee's run adds to its Calls, by chunk index, and the count of the Loop at a position.
 pub struct Exact<'a, F: Fn(usize) -> u32> {
     pub chunk: &'a Chunk,
+    pub callees: &'a [u32],
     pub count: F,
+}
+
+/// A figure up to the cap.
+pub fn capped(figure: u128) -> u32 {
+    figure.min(u128::from(u32::MAX)) as u32
 }
 
 /// Whether a figure is greater than the cap.
@@ -22,10 +28,15 @@ impl<F: Fn(usize) -> u32> Exact<'_, F> {
         self.row(from, to, &mut None).0
     }
 
-    /// "charge is cycles plus extra"
+    /// "charge is cycles plus extra", and of a Call its callee's run.
     fn charge(&self, i: usize) -> u128 {
+        let op = &self.chunk.ops[i];
         let extra = self.chunk.extras.get(i).copied().unwrap_or(0);
-        document::figures(&self.chunk.ops[i]).0 as u128 + u128::from(extra)
+        let run = match op.kind {
+            CALL => self.callees.get(usize::from(op.a)).copied().unwrap_or(0),
+            _ => 0,
+        };
+        document::figures(op).0 as u128 + u128::from(extra) + u128::from(run)
     }
 
     /// A row: its cycles, and whether it ends. Its breaks are noted by their cost from its start.

@@ -217,7 +217,7 @@ fn outside_breaks(see: &mut impl FnMut(Case)) {
 }
 
 /// A chunk for each refusal that the ops of one may meet, and one that meets none.
-fn each_refusal() -> Vec<Chunk> {
+pub fn each_refusal() -> Vec<Chunk> {
     let mut open = func(ops![YIELD]);
     open.extras = vec![u32::MAX];
     vec![
@@ -234,10 +234,9 @@ fn each_refusal() -> Vec<Chunk> {
     ]
 }
 
-/// Modules of three of them, in which each chunk calls the next one, the one before, or one that there is not: in a sheet the first refusal in call order
+/// Modules of three of these, in which each chunk calls the next one, the one before, or one that there is not: in a sheet the first refusal in call order
 /// counts.
-fn first_refusals(see: &mut impl FnMut(Case)) {
-    let held = each_refusal();
+pub fn threes(held: &[Chunk], see: &mut impl FnMut(Case)) {
     let n = held.len();
     for k in 0..n.pow(3) {
         for callee in [|c| c + 1, |c: usize| c.wrapping_sub(1), |_| usize::MAX] {
@@ -257,7 +256,7 @@ pub fn all(mut see: impl FnMut(Case)) {
     streams(&mut see);
     stray_breaks(&mut see);
     outside_breaks(&mut see);
-    first_refusals(&mut see);
+    threes(&each_refusal(), &mut see);
 }
 
 /// Document 01's own figures, as it gives them: the chunk, the callee bytes, and the values of the cycle walk and of the stack walk that it names.

@@ -1,5 +1,5 @@
 //! The stored questions: document 01's cases and what DECISIONS reads into it, every op kind, every refusal at different places, the limits, near misses of a
-//! count, callees, random modules from a fixed seed, stray breaks, and figures about the cap.
+//! count, callees, random modules from a fixed seed, stray breaks, figures about the cap, and loops that step by other numbers than 1.
 mod calls;
 mod counted;
 mod library;
@@ -7,6 +7,7 @@ mod marks;
 mod readings;
 mod rows;
 mod stacks;
+mod steps;
 mod strays;
 mod whole;
 
@@ -199,5 +200,6 @@ pub fn all() -> Vec<Question> {
     whole::random_modules(&mut list, 18);
     strays::all(&mut list);
     marks::all(&mut list);
+    steps::all(&mut list);
     list.0
 }

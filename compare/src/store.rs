@@ -1,14 +1,17 @@
 //! Writes the stored questions and their answers for the program `replay`. An answer is the original's; where the original has no such refusal or no such
-//! question, it is document 01's, and those lines are listed. Where document 01 or a reading of it says an answer, the original has to say the same, and so has
-//! our side everywhere.
+//! question, it is document 01's, and those lines are listed. Where a loop steps by another number than 1 it is request 2.7's, and the lines are listed by how
+//! it stands to the original's. Where document 01, a reading of it or a request says an answer, that has to be the one, and so has our side's everywhere.
 use crate::case::Case;
+use crate::expected::{self, Expected};
 use crate::form;
 use crate::pinnaclemug::{self, ROW};
 use crate::questions::{self, Asked, Question};
 use crate::refusals::*;
-use crate::table::{self, COMPARISONS, ENDS, Expected, MARK, Outcome, WHOLE};
-use Expected::{Apart, Same};
+use crate::stands::{self, Stands};
+use crate::table::{self, COMPARISONS, ENDS, Each, MARK, Outcome, WHOLE};
+use Expected::{Apart, Same, Stepping};
 use std::collections::BTreeMap;
+use std::fmt::Display;
 
 /// What stands in a tray before the call.
 const BEFORE: i64 = 9;
@@ -70,8 +73,8 @@ fn expected(question: &Question) -> Expected {
     }
     let case = Case::new(question.words.clone(), question.callees.clone());
     match asked {
-        Asked::Sheet => return table::original_lines(&case),
-        Asked::Cycles => return table::original_walk(&case, c),
+        Asked::Sheet => return expected::lines(&case),
+        Asked::Cycles => return expected::walk(&case, c),
         _ => {}
     }
     let held = COMPARISONS.iter().find(|held| held.name == name(asked));
@@ -127,12 +130,44 @@ fn marks_apart(asked: Asked, outcome: &Outcome) -> (Outcome, Vec<i64>) {
     (Outcome::Answer(picked(false)), picked(true))
 }
 
-/// The answer, and where it is document 01's why.
-fn answer(question: &Question) -> (Outcome, Option<&'static str>) {
+/// Whose an answer is: the original's, document 01's and why, or request 2.7's and how it stands to the original's.
+enum Whose {
+    Original,
+    Document(&'static str),
+    Stepping(Stands),
+}
+
+/// Which numbers of an answer a loop's step brings down: the count; the cycles and the mark of a walk; those and the whole figure of each line of a sheet.
+fn is_figure(asked: Asked) -> fn(usize) -> bool {
+    match asked {
+        Asked::Count => |_| true,
+        Asked::Cycles => |i| i != 1,
+        Asked::Sheet => |i| matches!(i % ROW, 0 | MARK | WHOLE),
+        _ => |_| false,
+    }
+}
+
+/// How the answer stands to the original's.
+fn stands(question: &Question, outcome: &Outcome, original: &Outcome) -> Stands {
+    let case = Case::new(question.words.clone(), question.callees.clone());
+    let each = match question.asked {
+        Asked::Sheet => Each::Module,
+        _ => Each::Chunk,
+    };
+    stands::how(&case, each, is_figure(question.asked), outcome, original)
+}
+
+/// The answer, and whose it is.
+fn answer(question: &Question) -> (Outcome, Whose) {
     let names = question.names.join(" / ");
-    let (outcome, rule) = match expected(question) {
-        Same(outcome) => (outcome, None),
-        Apart(reason, outcome) => (outcome, Some(reason)),
+    let (outcome, whose) = match expected(question) {
+        Same(outcome) => (outcome, Whose::Original),
+        Apart(reason, outcome) => (outcome, Whose::Document(reason)),
+        Stepping(outcome, original) => {
+            let how = stands(question, &outcome, &original);
+            assert_ne!(how, Stands::Against, "{names}: {outcome:?}, {original:?}");
+            (outcome, Whose::Stepping(how))
+        }
     };
     let (found, marks) = marks_apart(question.asked, &outcome);
     if let Some(said) = &question.said {
@@ -148,7 +183,7 @@ fn answer(question: &Question) -> (Outcome, Option<&'static str>) {
     if let Some(ours) = ours(question) {
         assert_eq!(ours, packed(&outcome), "{names}: we say something else");
     }
-    (outcome, rule)
+    (outcome, whose)
 }
 
 /// A line as `replay` prints it: for an order or a sheet how many chunks there are, and the whole tray.
@@ -195,8 +230,12 @@ fn numbers(question: &Question) -> Vec<u32> {
     [&head, &question.callees[..], &question.words[..]].concat()
 }
 
-/// Lines by a heading, in one row.
-fn told(lines: BTreeMap<&str, Vec<usize>>) {
+/// Lines by what they are listed for.
+type Lines<T> = BTreeMap<T, Vec<usize>>;
+
+/// The lists below a heading, each in one row.
+fn told<T: Display>(heading: &str, lines: Lines<T>) {
+    println!("{heading}:");
     for (reason, lines) in lines {
         let lines: Vec<String> = lines.iter().map(usize::to_string).collect();
         println!("{reason}: {}", lines.join(", "));
@@ -207,17 +246,17 @@ fn told(lines: BTreeMap<&str, Vec<usize>>) {
 pub fn all() {
     let (mut input, mut output) = (Vec::new(), String::new());
     let mut met: BTreeMap<(&str, String), u32> = BTreeMap::new();
-    let mut alone: BTreeMap<&str, Vec<usize>> = BTreeMap::new();
-    let mut agreed: BTreeMap<&str, Vec<usize>> = BTreeMap::new();
+    let (mut alone, mut agreed, mut steps) = (Lines::new(), Lines::new(), Lines::new());
     let questions = questions::all();
     for (i, question) in questions.iter().enumerate() {
-        let (outcome, rule) = answer(question);
-        match rule {
-            Some(reason) => alone.entry(reason).or_default().push(i + 1),
-            None if question.said.is_some() => {
+        let (outcome, whose) = answer(question);
+        match whose {
+            Whose::Document(reason) => alone.entry(reason).or_default().push(i + 1),
+            Whose::Stepping(how) => steps.entry(how).or_default().push(i + 1),
+            Whose::Original if question.said.is_some() => {
                 agreed.entry(name(question.asked)).or_default().push(i + 1);
             }
-            None => {}
+            Whose::Original => {}
         }
         let kind = match outcome {
             Outcome::Refused(number, ..) => format!("refused by {number:2}"),
@@ -234,8 +273,8 @@ pub fn all() {
     for ((name, kind), n) in met {
         println!("{name:<6} {kind:<13} {n:>3}");
     }
-    println!("lines by document 01 alone:");
-    told(alone);
-    println!("lines that document 01 or a reading says, the original the same:");
-    told(agreed);
+    told("lines by document 01 alone", alone);
+    let said = "lines that document 01 or a reading says, the original the same";
+    told(said, agreed);
+    told("lines of loops that step by another number than 1", steps);
 }

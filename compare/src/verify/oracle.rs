@@ -95,6 +95,24 @@ pub fn count(chunk: &Chunk, place: usize) -> Option<u32> {
     extract_loop_iteration_bound(chunk, place)
 }
 
+/// What `extract_loop_iteration_bound` takes the distance of: the start and the end of a loop that passes all its tests of header and tail.
+pub fn ends(chunk: &Chunk, place: usize) -> Option<(i64, i64)> {
+    let header = chunk.ops.get(place + 1..place + 5)?;
+    let [
+        Op::GetLocal(var),
+        Op::GetLocal(end),
+        Op::CmpGe,
+        Op::BreakIf(_),
+    ] = *header
+    else {
+        return None;
+    };
+    let stop = trace_const_set_local(chunk, place, end)?;
+    let start = trace_const_set_local(chunk, place, var)?;
+    let advances = loop_body_advances_induction(chunk, place, var, end);
+    advances.then_some((start, stop))
+}
+
 /// Peak and delta by `wcmu_region` on the range of `compute_chunk_wcmu`, and bytes by the latter, with the callees' bytes as lent.
 pub fn stack(chunk: &Chunk, callees: &[u32]) -> Result<(u32, Option<i32>, u32), Refusal> {
     let known: Vec<Option<(u32, u32)>> = callees.iter().map(|&bytes| Some((bytes, 0))).collect();

@@ -1,5 +1,6 @@
-// The count of a loop: header, tail, and the distance of the two values.
+// The count of a loop: header, tail, and the distance of the two values divided by the step.
 use crate::search::Value;
+use crate::search::constant_value;
 use crate::search::is_kind;
 use crate::search::is_of;
 use crate::search::never_sets;
@@ -12,7 +13,7 @@ use words::values::ConstValue;
 use words::values::constant_at;
 ghost use mathlib.Core.Path.{_≡_};
 ghost use mathlib.Core.Bool.{_&&_};
-ghost use Prim.Native.Nat.{ℕ, _+_, _-_, _≤_, _<_};
+ghost use Prim.Native.Nat.{ℕ, _+_, _-_, _^_, _≤_, _<_};
 ghost use lib.ListN.{length, getD};
 ghost use Rattle.rules.specs.Limits.{mostWords};
 ghost use Rattle.rules.specs.Form.{other};
@@ -20,8 +21,11 @@ ghost use Rattle.rules.specs.Reading.{constantsOf};
 ghost use Rattle.rules.specs.Count.{hasHeader, hasIncrement, hasTail, neverSets, isPositive, passes, countAt};
 ghost use Rattle.count.specs.Count.{boundOf};
 
-// The greatest count, as a distance.
-const MOST_PASSES: i64 = PASSES as i64;
+// The greatest count, as wide as a quotient.
+const MOST_PASSES: u64 = PASSES as u64;
+
+// The greatest distance: it has to fit a signed number.
+const FARTHEST: i64 = 9223372036854775807;
 
 // The count of a loop, if it has one.
 pub enum Bound {
@@ -90,21 +94,26 @@ pub fn loop_body_advances_induction(
     never_sets(ops, v, e, n - (p + 10), p + 5)
 }
 
-// How often a counter that goes up passes from start to stop, if that is at most 4,294,967,295.
-pub fn passes_of(start: i64, stop: i64) -> Bound
-    ensures { λ r. ⌜ boundOf r ≡ passes start stop ⌝ }
+// How many steps bring a counter from start to stop or past it: none if the distance leaves 64 bits or they are more than 4,294,967,295. Distance and step are
+// each below 2^63, so the sum that rounds up fits an unsigned number, though no signed one.
+pub fn passes_of(start: i64, stop: i64, step: u64) -> Bound
+    requires { ⌜ (0 < step) × (step < 2 ^ 63) ⌝ }
+    ensures { λ r. ⌜ boundOf r ≡ passes start stop step ⌝ }
 {
     if stop < start {
         return Bound::Count(0);
     }
-    if start < 9223372032559808513 {
-        if start + MOST_PASSES < stop {
+    if start < 0 {
+        if start + FARTHEST < stop {
             return Bound::Nothing;
         }
     }
     let distance = stop - start;
-    let passes = distance as u32;
-    Bound::Count(passes)
+    let passes = (distance as u64 + (step - 1)) / step;
+    if MOST_PASSES < passes {
+        return Bound::Nothing;
+    }
+    Bound::Count(passes as u32)
 }
 
 // The count of the loop at p.
@@ -129,5 +138,12 @@ pub fn extract_loop_iteration_bound(constants: &[u32], ops: &[u32], p: usize) ->
     let Value::Is(stop) = last else {
         return Bound::Nothing;
     };
-    passes_of(start, stop)
+    let added = constant_value(
+        constants,
+        (op_at(ops, target - 5) % fields::B_UNIT) as usize,
+    );
+    let Value::Is(step) = added else {
+        return Bound::Nothing;
+    };
+    passes_of(start, stop, step as u64)
 }

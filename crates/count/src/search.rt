@@ -151,7 +151,7 @@ pub fn trace_const_set_local(constants: &[u32], ops: &[u32], before: usize, slot
 }
 
 // The constant of an index, if it is an integer.
-fn constant_value(constants: &[u32], i: usize) -> Value
+pub fn constant_value(constants: &[u32], i: usize) -> Value
     ensures { λ r. ⌜ valueIs r ≡ constantValue (getD (constantsOf (now (constants .entry))) i other) ⌝ }
 {
     let value = constant_at(constants, i);

@@ -1,4 +1,4 @@
--- The cases of specs/Cases, specs/CalleeCases, specs/MarkCases, specs/WritingCases and specs/TableCases, each list as one checked list, and the table that
+-- The cases of specs/Cases, specs/CalleeCases, specs/MarkCases, specs/StepCases, specs/WritingCases and specs/TableCases, each list as one checked list, and the table that
 -- document 01's groups print. Assumes nothing.
 use mathlib.Core.Path.{refl}
 use mathlib.Core.List.{flatMap}
@@ -17,6 +17,7 @@ use Rattle.rules.specs.TableClaims.{unended, TablePrinted}
 use Rattle.rules.specs.Cases.{AllHold, documented, settled, levelled, strayed}
 use Rattle.rules.specs.CalleeCases.{shared}
 use Rattle.rules.specs.MarkCases.{marked}
+use Rattle.rules.specs.StepCases.{stepped}
 use Rattle.rules.specs.WritingCases.{shelved}
 use Rattle.rules.specs.TableCases.{grouped}
 
@@ -28,7 +29,7 @@ documented-hold = (refl, (refl, (refl, (refl, (refl, (refl, (refl, (refl, (refl,
 -- what was settled where its words leave a choice
 pub settled-hold : AllHold settled
 unfolding flatMap inGroups brokenAt takeWhile dropWhile constantsOf extrasOf chunksOf parse firstOf firstBackward strayBreak lastSet arrayLength neverSets rowCost rowHeight member calleesIn visitEach visit upFrom linesIn wordsOf digits linesText bytesIn
-settled-hold = (refl, (refl, (refl, (refl, (refl, (refl, (refl, (refl, (refl, (refl, (refl, (refl, (refl, (refl, (refl, (refl, (refl, (refl, (refl, (refl, tt))))))))))))))))))))
+settled-hold = (refl, (refl, (refl, (refl, (refl, (refl, (refl, (refl, (refl, (refl, (refl, (refl, (refl, (refl, (refl, (refl, (refl, (refl, (refl, tt)))))))))))))))))))
 
 -- the levels of nesting
 pub levelled-hold : AllHold levelled
@@ -49,6 +50,11 @@ shared-hold = (refl, (refl, (refl, (refl, (refl, (refl, (refl, (refl, (refl, (re
 pub marked-hold : AllHold marked
 unfolding flatMap inGroups brokenAt takeWhile dropWhile constantsOf extrasOf chunksOf parse firstOf firstBackward strayBreak lastSet arrayLength neverSets rowCost rowHeight member calleesIn visitEach visit upFrom linesIn trayNumbers wordsOf digits linesText bytesIn
 marked-hold = (refl, (refl, (refl, (refl, (refl, (refl, (refl, (refl, (refl, (refl, (refl, (refl, (refl, (refl, (refl, (refl, (refl, (refl, (refl, (refl, (refl, (refl, (refl, tt)))))))))))))))))))))))
+
+-- loops that step by other numbers than 1
+pub stepped-hold : AllHold stepped
+unfolding flatMap inGroups brokenAt takeWhile dropWhile constantsOf extrasOf chunksOf parse firstOf firstBackward strayBreak lastSet arrayLength neverSets rowCost rowHeight member calleesIn visitEach visit upFrom linesIn wordsOf digits linesText bytesIn
+stepped-hold = (refl, (refl, (refl, (refl, (refl, (refl, (refl, (refl, (refl, (refl, (refl, (refl, (refl, (refl, (refl, (refl, (refl, (refl, (refl, (refl, (refl, (refl, (refl, (refl, (refl, (refl, (refl, (refl, (refl, tt)))))))))))))))))))))))))))))
 
 -- the writer
 pub shelved-hold : AllHold shelved

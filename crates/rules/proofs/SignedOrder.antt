@@ -4,7 +4,7 @@ use mathlib.Core.Path.{_≡_, refl}
 use mathlib.Core.Bool.{Bool, true, false, cond}
 use Prim.Native.Nat.{ℕ, zero, suc, _+_, _-_, _≤_, max}
 use native.Mathlib.Omega.{arith}
-use borrow.Author.Tests.{leb-true, ltb-true, ltb-false}
+use borrow.Author.Tests.{leb-true, ltb-true, ltb-false, le-leb, lt-leb}
 use lib.Dec.{ltb}
 use lib.IntN.{ℤ, pos, negsuc, negℤ, _+ℤ_, subℕ}
 use lib.Signed.{ltZ, leZ}
@@ -32,9 +32,10 @@ sum-parts (negsuc a) (pos b) = omega (arith, sub-parts b (suc a))
 sum-parts (negsuc a) (negsuc b) = omega arith
 
 -- what a negated number adds
-pub minus-parts : (n : ℕ) → (atLeastZero (negℤ (pos n)) ≡ 0) × (under (negℤ (pos n)) ≡ n)
-minus-parts zero = (refl, refl)
-minus-parts (suc n) = (refl, refl)
+pub minus-parts : (a : ℤ) → (atLeastZero (negℤ a) ≡ under a) × (under (negℤ a) ≡ atLeastZero a)
+minus-parts (pos zero) = (refl, refl)
+minus-parts (pos (suc n)) = (refl, refl)
+minus-parts (negsuc n) = (refl, refl)
 
 pub at-most-above : (a b : ℤ) → AtMost a b → atLeastZero a ≤ atLeastZero b
 at-most-above (pos a) (pos b) h = omega arith
@@ -55,13 +56,25 @@ le-at-most (pos a) (negsuc b) e = absurd (let z : _≡_ {A = ℕ} 0 1 = cc in om
 le-at-most (negsuc a) (pos b) e = omega arith
 le-at-most (negsuc a) (negsuc b) e = omega (arith, leb-true b a e)
 
-less-parts : (a b : ℤ) → ltZ a b ≡ true → AtMost a b
+pub at-most-le : (a b : ℤ) → AtMost a b → leZ a b ≡ true
+at-most-le (pos a) (pos b) h = le-leb a b (omega arith)
+at-most-le (pos a) (negsuc b) h = absurd (omega arith)
+at-most-le (negsuc a) (pos b) h = refl
+at-most-le (negsuc a) (negsuc b) h = le-leb b a (omega arith)
+
+pub not-at-most : (a b : ℤ) → (AtMost a b → ⊥) → leZ a b ≡ false
+not-at-most (pos a) (pos b) h = lt-leb a b (omega (arith, h))
+not-at-most (pos a) (negsuc b) h = refl
+not-at-most (negsuc a) (pos b) h = absurd (h (omega arith))
+not-at-most (negsuc a) (negsuc b) h = lt-leb b a (omega (arith, h))
+
+pub less-parts : (a b : ℤ) → ltZ a b ≡ true → AtMost a b
 less-parts (pos a) (pos b) e = omega (arith, ltb-true a b e)
 less-parts (pos a) (negsuc b) e = absurd (let z : _≡_ {A = ℕ} 0 1 = cc in omega arith)
 less-parts (negsuc a) (pos b) e = omega arith
 less-parts (negsuc a) (negsuc b) e = omega (arith, ltb-true b a e)
 
-not-less-parts : (a b : ℤ) → ltZ a b ≡ false → AtMost b a
+pub not-less-parts : (a b : ℤ) → ltZ a b ≡ false → AtMost b a
 not-less-parts (pos a) (pos b) e = omega (arith, ltb-false a b e)
 not-less-parts (pos a) (negsuc b) e = omega arith
 not-less-parts (negsuc a) (pos b) e = absurd (let z : _≡_ {A = ℕ} 0 1 = cc in omega arith)

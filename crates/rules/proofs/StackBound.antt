@@ -126,7 +126,7 @@ module _ (cs : List Chunk) (lines : List Line) (tall : (c : ℕ) → c < length 
           sum-parts (f .base +ℤ inside) (pos n),
           sum-parts (f .base) inside,
           sum-parts (f .depth) (negℤ (pos b)),
-          minus-parts b,
+          minus-parts (pos b),
           sum-parts (pos slots) (negℤ (pos b)),
           sum-parts (f .depth) rise,
           sum-parts (f .base) (pos (h .fit .top)),

@@ -204,15 +204,15 @@ chunk-counted c p n h =
     let is-found = asked (countAt (c .constants) (c .ops) p) h in
     let v = fieldA (opAt (c .ops) (p + 1)) in
     let e = fieldA (opAt (c .ops) (p + 2)) in
-    (tested v e (hasHeader (c .ops) p) (hasTail (c .constants) (c .ops) p (fieldA (opAt (c .ops) p) - 1) v e) is-found, is-found)
+    (tested v e _ (hasHeader (c .ops) p) (hasTail (c .constants) (c .ops) p (fieldA (opAt (c .ops) p) - 1) v e) is-found, is-found)
   where
     asked : (x : Found) → orNoCount x p ≡ ok n → x ≡ found n
     asked (found m) h = cc
     asked nothing h = absurd (let z : _≡_ {A = ℕ} 0 1 = cc in omega arith)
 
-    tested : (v e : ℕ) (a b : Bool) → countIf (a && b) (c .constants) (c .ops) p v e ≡ found n → a ≡ true
-    tested v e true b h = refl
-    tested v e false b h = absurd (let z : _≡_ {A = ℕ} 0 1 = cc in omega arith)
+    tested : (v e s : ℕ) (a b : Bool) → countIf (a && b) (c .constants) (c .ops) p v e s ≡ found n → a ≡ true
+    tested v e s true b h = refl
+    tested v e s false b h = absurd (let z : _≡_ {A = ℕ} 0 1 = cc in omega arith)
 
 pub chunk-walked : (c : Chunk) (wholes : List ℕ) (r : Row) (k : Cost) → exactCost c wholes r ≡ ok k → Walked (feeOf c wholes) (CountedIn c) r 0 unbroken k
 chunk-walked c wholes r k h =

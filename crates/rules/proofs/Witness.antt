@@ -1,4 +1,5 @@
--- Demand 3 does not speak of nothing: concrete paths through chunk L, one of 48 cycles and one of depth 3, that meet its conditions.
+-- Demand 3 does not speak of nothing: concrete paths through chunk L, one of 48 cycles and one of depth 3, that meet its conditions; and with request 2.7's
+-- step of 2 one of 36 cycles.
 -- Assumes nothing.
 use mathlib.Core.Path.{_≡_, refl, sym, ap, _∙_}
 use mathlib.Core.Bool.{Bool, true, false, _&&_}
@@ -84,3 +85,18 @@ longest-depth = refl
 pub longest-keeps-depths : KeepsDepths module-L true (begin module-L 0) longest
 unfolding depthsTest settle inGroups
 longest-keeps-depths = keeps-depths module-L true (begin module-L 0) longest refl
+
+-- with a step of 2 the count is 2: two whole passes, the break by the header, Return, for the line's 36 cycles
+abbrev module-twos : List Chunk
+module-twos = chunkL (pos 0) (pos 3) (pos 2) ∷ []
+
+abbrev by-twos : List Way
+by-twos = replicate 28 on ++ (aside ∷ on ∷ [])
+
+pub twos-cycles : pathCycles module-twos (path module-twos false (begin module-twos 0) by-twos) ≡ 36
+unfolding pathCycles path settle inGroups
+twos-cycles = refl
+
+pub twos-keep-counts : KeepsCounts module-twos false (begin module-twos 0) by-twos
+unfolding countsTest settle inGroups lastSet arrayLength neverSets
+twos-keep-counts = keeps-counts module-twos false (begin module-twos 0) by-twos refl

@@ -202,7 +202,6 @@ settled =
       name = "EndLoop is not charged to a body that never gets there; Loop's target may be the length";
       claim = sheet (caller (op K.Loop 3 ∷ op K.Break 3 ∷ op K.EndLoop 0 ∷ [])) ≡ one 2 0 0;
     }
-    ∷ record { name = "the count is not divided by the step"; claim = sheet (chunkL (pos 0) (pos 3) (pos 2)) ≡ one 48 3 160 }
     ∷ record {
       name = "an arm that has ended has no delta: Const 0, Const 0, If 5, Trap 0, Else 6, SetLocal 0, EndIf";
       claim = stackOutcome (alone (caller (op K.Const 0 ∷ op K.Const 0 ∷ op K.If 5 ∷ op K.Trap 0 ∷ op K.Else 6 ∷ op K.SetLocal 0 ∷ op K.EndIf 0 ∷ []))) 0 []

@@ -1,7 +1,7 @@
 -- "Count (`extract_loop_iteration_bound`)": the passes of a counted loop.
 use mathlib.Core.Bool.{Bool, true, false, cond, not, _&&_}
 use mathlib.Core.List.{List}
-use Prim.Native.Nat.{ℕ, zero, suc, _+_, _-_, _^_}
+use Prim.Native.Nat.{ℕ, zero, suc, _+_, _-_, _/_, _^_}
 use lib.Dec.{eqb, leb, ltb}
 use lib.IntN.{ℤ, pos, negsuc, _-ℤ_}
 use lib.ListN.{getD}
@@ -96,11 +96,15 @@ abbrev pub isPositive : Constant → Bool
 isPositive (integer z) = ltZ (pos 0) z
 isPositive other = false
 
+-- the constant that the tail adds to v: EndLoop is at n
+abbrev pub tailConstant : List Constant → List ℕ → ℕ → Constant
+tailConstant constants ops n = getD constants (fieldA (opAt ops (n - 4))) other
+
 -- "right behind GetLocal v, Const of an integer over 0, CheckedAdd, PopN 2, SetLocal v": EndLoop is at n
 abbrev pub hasIncrement : List Constant → List ℕ → ℕ → ℕ → Bool
 hasIncrement constants ops n v =
     isGetLocal v (opAt ops (n - 5)) && eqb (kind (opAt ops (n - 4))) K.Const
-    && isPositive (getD constants (fieldA (opAt ops (n - 4))) other) && eqb (kind (opAt ops (n - 3))) K.CheckedAdd
+    && isPositive (tailConstant constants ops n) && eqb (kind (opAt ops (n - 3))) K.CheckedAdd
     && eqb (kind (opAt ops (n - 2))) K.PopN && eqb (fieldB (opAt ops (n - 2))) 2 && isSetLocal v (opAt ops (n - 1))
 
 -- "EndLoop, right before Loop's target, is at p + 10 or later, right behind [the increment]; from p + 5 to it there is no SetLocal e and no
@@ -110,31 +114,48 @@ hasTail constants ops p n v e =
     leb (p + 10) n && eqb (kind (opAt ops n)) K.EndLoop && hasIncrement constants ops n v
     && neverSets ops e (n - (p + 5)) (p + 5) && neverSets ops v (n - (p + 6)) (p + 5)
 
--- "none if that leaves signed 64 bits or passes 4,294,967,295"
-abbrev pub distance : ℤ → Found
-distance (pos n) = cond (ltb n (2 ^ 63) && leb n mostPasses) (found n) nothing
-distance (negsuc n) = nothing
+-- 2.7: "the distance divided by the step, rounded up"
+abbrev pub roundedUp : ℕ → ℕ → ℕ
+roundedUp d step = (d + (step - 1)) / step
 
--- "The count is 0 if e's value is below v's, else their distance"
-abbrev pub passes : ℤ → ℤ → Found
-passes start stop = cond (ltZ stop start) (found 0) (distance (stop -ℤ start))
+-- 2.7: "with the 32-bit limit on that quotient. The distance itself must still fit a signed 64-bit number."
+abbrev pub quotient : ℤ → ℕ → Found
+quotient (pos d) step = cond (ltb d (2 ^ 63) && leb (roundedUp d step) mostPasses) (found (roundedUp d step)) nothing
+quotient (negsuc d) step = nothing
 
-abbrev pub countUp : Value → Value → Found
-countUp (is start) (is stop) = passes start stop
-countUp (is start) unknown = nothing
-countUp unknown (is stop) = nothing
-countUp unknown unknown = nothing
+-- "The count is 0 if e's value is below v's", whatever the step, else 2.7's quotient of their distance
+abbrev pub passes : ℤ → ℤ → ℕ → Found
+passes start stop step = cond (ltZ stop start) (found 0) (quotient (stop -ℤ start) step)
 
-abbrev pub countIf : Bool → List Constant → List ℕ → ℕ → ℕ → ℕ → Found
-countIf true constants ops p v e = countUp (valueOf constants ops p v) (valueOf constants ops p e)
-countIf false constants ops p v e = nothing
+abbrev pub countUp : Value → Value → ℕ → Found
+countUp (is start) (is stop) step = passes start stop step
+countUp (is start) unknown step = nothing
+countUp unknown (is stop) step = nothing
+countUp unknown unknown step = nothing
 
--- The count of the loop at p: v and e are the slots of the header's two GetLocals.
-abbrev pub countAt : List Constant → List ℕ → ℕ → Found
-countAt constants ops p =
+abbrev pub countIf : Bool → List Constant → List ℕ → ℕ → ℕ → ℕ → ℕ → Found
+countIf true constants ops p v e step = countUp (valueOf constants ops p v) (valueOf constants ops p e) step
+countIf false constants ops p v e step = nothing
+
+-- The count of the loop at p for a given step: v and e are the slots of the header's two GetLocals.
+abbrev pub countBy : ℕ → List Constant → List ℕ → ℕ → Found
+countBy step constants ops p =
     let v = fieldA (opAt ops (p + 1)) in
     let e = fieldA (opAt ops (p + 2)) in
-    countIf (hasHeader ops p && hasTail constants ops p (fieldA (opAt ops p) - 1) v e) constants ops p v e
+    countIf (hasHeader ops p && hasTail constants ops p (fieldA (opAt ops p) - 1) v e) constants ops p v e step
+
+-- The step is the tail's integer over 0; where there is none, there is no count either.
+abbrev pub stepOf : Constant → ℕ
+stepOf (integer (pos n)) = n
+stepOf (integer (negsuc n)) = 0
+stepOf other = 0
+
+abbrev pub stepAt : List Constant → List ℕ → ℕ → ℕ
+stepAt constants ops p = stepOf (tailConstant constants ops (fieldA (opAt ops p) - 1))
+
+-- The count of the loop at p.
+abbrev pub countAt : List Constant → List ℕ → ℕ → Found
+countAt constants ops p = countBy (stepAt constants ops p) constants ops p
 
 abbrev pub orNoCount : Found → ℕ → Result ℕ
 orNoCount (found n) p = ok n

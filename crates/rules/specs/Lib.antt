@@ -16,9 +16,11 @@ pub mod Writing
 pub mod Shelf
 pub mod Table
 pub mod TableClaims
+pub mod StepClaims
 pub mod Cases
 pub mod CalleeCases
 pub mod MarkCases
+pub mod StepCases
 pub mod WritingCases
 pub mod TableCases
 pub mod Paths

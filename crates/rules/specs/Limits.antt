@@ -35,7 +35,7 @@ cycleCap = 4294967295
 abbrev pub openText : ℕ
 openText = 4294967295
 
--- "none if that .. passes 4,294,967,295"
+-- "none if that .. passes 4,294,967,295", and 2.7: "with the 32-bit limit on that quotient"
 abbrev pub mostPasses : ℕ
 mostPasses = 4294967295
 
