@@ -1,5 +1,5 @@
--- The count for a step: the least number of steps that bring the counter to its end, none where there is no such number up to the limit, and never more than
--- for a step of 1. Assumes nothing.
+-- The count for a step: the least number of steps that bring the counter to its end, within both limits; none where there is no such number; and never more
+-- than for a step of 1. Assumes nothing.
 use mathlib.Core.Path.{_≡_, refl, ap, sym, _∙_}
 use mathlib.Core.Bool.{Bool, true, false}
 use mathlib.Core.Logic.{_⊎_, inl, inr, ⊎-elim}
@@ -14,7 +14,7 @@ use Rattle.rules.specs.Limits.{mostPasses}
 use Rattle.rules.specs.Outcome.{found, nothing}
 use Rattle.rules.specs.Stack.{atLeastZero}
 use Rattle.rules.specs.Count.{roundedUp, quotient, passes}
-use Rattle.rules.specs.StepClaims.{CountLeast, CountNone, CountBelow}
+use Rattle.rules.specs.StepClaims.{CountLeast, CountFits, CountNone, CountBelow}
 use Rattle.rules.proofs.SignedOrder.{under, sum-parts, minus-parts, less-parts, not-less-parts, at-most-le, not-at-most}
 
 -- so many steps cover a distance, and fewer do not
@@ -108,6 +108,21 @@ count-least start stop step n positive e = go (from start stop)
         let same = counted d step n (sym (f step) ∙ e) .same in
         let r = rounded d step positive in
         (reached start stop d over step n (rw same (r .0)), λ m lt. not-reached start stop d over step m (r .1 m (rw same at lt)))
+
+pub count-fits : CountFits
+count-fits start stop step n e = go (from start stop)
+  where
+    go : From start stop → (leZ (start +ℤ pos (2 ^ 63)) stop ≡ false) × (n ≤ mostPasses)
+    go (below l f) =
+        let none : n ≡ 0 = let g = sym (f step) ∙ e in cc in (
+          not-at-most (start +ℤ pos (2 ^ 63)) stop (λ h. omega (arith, h, less-parts stop start l, sum-parts start (pos (2 ^ 63)))),
+          omega arith,
+        )
+    go (above d over f) =
+        let c = counted d step n (sym (f step) ∙ e) in (
+          not-at-most (start +ℤ pos (2 ^ 63)) stop (λ h. omega (arith, h, over, c .fits, sum-parts start (pos (2 ^ 63)))),
+          omega (arith, c .few, c .same),
+        )
 
 pub count-none : CountNone
 count-none start stop step positive e = go (from start stop)

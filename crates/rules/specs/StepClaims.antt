@@ -22,6 +22,11 @@ CountLeast =
     (start stop : ℤ) (step n : ℕ) → 0 < step → passes start stop step ≡ found n
     → (leZ stop (start +ℤ pos (n * step)) ≡ true) × ((m : ℕ) → m < n → leZ stop (start +ℤ pos (m * step)) ≡ false)
 
+-- There is one only if the distance is below 2^63, and it is at most 4,294,967,295.
+abbrev pub CountFits : Type 0
+CountFits =
+    (start stop : ℤ) (step n : ℕ) → passes start stop step ≡ found n → (leZ (start +ℤ pos (2 ^ 63)) stop ≡ false) × (n ≤ mostPasses)
+
 -- There is none only if the distance is not below 2^63 or 4,294,967,295 steps are not enough.
 abbrev pub CountNone : Type 0
 CountNone =
