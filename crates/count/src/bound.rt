@@ -96,7 +96,7 @@ pub fn loop_body_advances_induction(
 
 // How many steps bring a counter from start to stop or past it: none if the distance leaves 64 bits or they are more than 4,294,967,295. Distance and step are
 // each below 2^63, so the sum that rounds up fits an unsigned number, though no signed one.
-pub fn passes_of(start: i64, stop: i64, step: u64) -> Bound
+fn passes_of(start: i64, stop: i64, step: u64) -> Bound
     requires { ⌜ (0 < step) × (step < 2 ^ 63) ⌝ }
     ensures { λ r. ⌜ boundOf r ≡ passes start stop step ⌝ }
 {
