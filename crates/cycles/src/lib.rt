@@ -1,4 +1,7 @@
 // The cycle walk.
+
+#![tactic(auto)]
+
 pub mod charge;
 pub mod entry;
 pub mod region;

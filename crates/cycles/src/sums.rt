@@ -8,7 +8,7 @@ ghost use Rattle.cycles.specs.Answers.{wide_cap, breaks_of};
 const WIDE_CAP: u64 = 18446744073709551615;
 
 // The breaks met so far: whether there was one, and the costliest.
-#[derive(Drop)]
+#[derive(Clone, Copy)]
 pub struct Breaks {
     pub met: bool,
     pub costliest: u64,

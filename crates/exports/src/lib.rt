@@ -1,4 +1,7 @@
 // The proved functions under plain names, for programs in other languages to link: include/pinnaclemug.h has their C signatures, and how a refusal is packed.
+
+#![tactic(auto)]
+
 pub mod lent;
 
 ghost use Rattle.std.specs.Prelude.{◌≡◌, ◌≤◌};

@@ -1,4 +1,7 @@
 // What the programs share: standard input into a buffer, a text to standard output, and what is said on standard error where either fails.
+
+#![tactic(auto)]
+
 ghost use Rattle.std.specs.Prelude.{length};
 ghost use Rattle.filter.specs.Input.{AtMost};
 

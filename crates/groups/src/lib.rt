@@ -1,4 +1,7 @@
 // What the program `optable` prints, from the bytes that it read.
+
+#![tactic(auto)]
+
 pub mod line;
 mod rows;
 

@@ -13,7 +13,7 @@ use words::kinds::KINDS;
 pub const ROW: usize = 36;
 
 // The figures of each kind, 0 while no group has it.
-#[derive(Drop)]
+#[derive(Clone, Copy)]
 pub struct Table {
     pub taken: [bool; KINDS],
     pub cycles: [u32; KINDS],

@@ -12,7 +12,7 @@ use words::parts::{Parts, constants_of, extras_of, ops_of};
 use words::units::{Slots, StackBytes};
 
 // A chunk's line: cycles, whether they are cut, peak in slots, stack bytes, and the cycles with its callees.
-#[derive(Drop)]
+#[derive(Clone, Copy)]
 pub struct Line {
     pub cycles: u32,
     pub cut: bool,

@@ -1,4 +1,7 @@
 // The program `optable`: the op table of the groups on standard input, on standard output.
+
+#![tactic(auto)]
+
 use filter::{Input, read_input, write_output};
 use groups::{FRONT, OUT, table_text};
 

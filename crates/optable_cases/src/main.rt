@@ -1,4 +1,7 @@
 // The text that `optable` prints for each case on standard input, one behind the other. A case ends before a bar.
+
+#![tactic(auto)]
+
 use filter::{Input, read_input, write_output};
 use groups::line::end_of;
 use groups::{OUT, table_text};

@@ -1,6 +1,9 @@
 // Answers questions from standard input, a line each: the answer's numbers, or a refusal, and the whole tray where the question has one. A question is 32-bit
 // numbers, the lowest byte first: which question, chunk and position (64 bits each, the low half first), room (the tray's length, or how many callees there are)
 // and how many words; then the callees' bytes, then the words.
+
+#![tactic(auto)]
+
 pub mod answers;
 
 ghost use Rattle.std.specs.Prelude.{◌≤◌, ◌/◌, length};

@@ -1,4 +1,7 @@
 // What the program `sheet` prints, from the bytes that it read. The module `shelf` is of the program `shelf`.
+
+#![tactic(auto)]
+
 pub mod line;
 pub mod shelf;
 

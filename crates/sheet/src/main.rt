@@ -1,4 +1,7 @@
 // The program `sheet`: the sheet of the module on standard input, on standard output.
+
+#![tactic(auto)]
+
 use filter::{Input, read_input, write_output};
 use report::{IN, OUT, sheet_text};
 

@@ -1,2 +1,5 @@
 // The module sheet.
+
+#![tactic(auto)]
+
 pub mod module;

@@ -1,4 +1,7 @@
 // The program `shelf`: the words of the lent module on standard input, on standard output.
+
+#![tactic(auto)]
+
 use filter::{Input, read_input, write_output};
 use report::shelf::{SHELF_IN, SHELF_OUT, shelf_bytes};
 

@@ -17,7 +17,7 @@ pub struct Effect {
 }
 
 // The offset since a row's start, the peak so far, and whether a break out of the loop around the row was met.
-#[derive(Drop)]
+#[derive(Clone, Copy)]
 pub struct Level {
     pub offset: i64,
     pub peak: Slots,

@@ -1,4 +1,7 @@
 // The operand-stack walk.
+
+#![tactic(auto)]
+
 pub mod chunk;
 pub mod entry;
 pub mod height;

@@ -1,4 +1,7 @@
 // Bytes to words and back, numbers and words to text, and the line of a refusal.
+
+#![tactic(auto)]
+
 ghost use Rattle.std.specs.Prelude.{◌≡◌, [], ◌∷◌, ◌+◌, ◌*◌, ◌≤◌, ◌<◌, ◌/◌, length};
 ghost use Rattle.rules.specs.Outcome.{refused};
 ghost use Rattle.rules.specs.Text.{bytes_in, decimal, outcome_text};

@@ -1,4 +1,7 @@
 // The filed words: fields and figures of an op, the reader, and the parts of a chunk.
+
+#![tactic(auto)]
+
 pub mod fields;
 pub mod figures;
 pub mod found;

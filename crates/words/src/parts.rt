@@ -5,7 +5,7 @@ ghost use Rattle.words.specs.Parts.{run_of, parts_from, parts_at, part_of};
 use crate::{fields, kinds};
 
 // A chunk's locals and type (`mode`: 0 Func, 1 Reentrant, 2 Stream), and where its constants, ops and extras begin and the chunk ends.
-#[derive(Drop)]
+#[derive(Clone, Copy)]
 pub struct Parts {
     pub locals: u32,
     pub mode: u32,

@@ -4,11 +4,11 @@ ghost use Rattle.rules.specs.Limits.{most_slots};
 ghost use Rattle.rules.specs.Stack.{bytes_of};
 
 // A number of slots of the operand stack.
-#[derive(Drop)]
+#[derive(Clone, Copy)]
 pub struct Slots(pub u32);
 
 // A number of bytes of the stack.
-#[derive(Drop)]
+#[derive(Clone, Copy)]
 pub struct StackBytes(pub u32);
 
 // The bytes of so many slots, 32 each: the one place where slots become bytes.

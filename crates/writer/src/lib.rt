@@ -1,4 +1,7 @@
 // The writer: the words of a module that an editor holds as four lists of numbers.
+
+#![tactic(auto)]
+
 pub mod entry;
 mod fits;
 pub mod lent;

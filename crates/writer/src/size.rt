@@ -11,7 +11,7 @@ use words::limits::WORDS;
 use words::{fields, kinds};
 
 // The five numbers of a lent chunk: locals, type (`mode`), and how many constants, ops and extras are its own.
-#[derive(Drop)]
+#[derive(Clone, Copy)]
 pub struct Head {
     pub locals: u32,
     pub mode: u32,
