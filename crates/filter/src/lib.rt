@@ -5,7 +5,7 @@
 ghost use Rattle.std.specs.Prelude.{length};
 ghost use Rattle.filter.specs.Input.{AtMost};
 
-use libc::{STDERR_FILENO, STDIN_FILENO, STDOUT_FILENO};
+use std::io::{Read, Write};
 
 // What was read: so many bytes, or nothing that counts, since a read failed.
 #[derive(Drop)]
@@ -14,17 +14,15 @@ pub enum Input {
     Failed,
 }
 
-// The input into the buffer, up to its end or the buffer's. A read that fails is told from the end of the input, which `io::read_full` does not do.
-fn fill(buf: &mut [u8]) -> Input
+// The input into the buffer, up to its end or the buffer's. A read that fails is told from the end of the input.
+fn fill<R: Read>(reader: &mut R, buf: &mut [u8]) -> Input
     ensures { AtMost (length buf.new) result }
 {
     let mut done: usize = 0;
     while done < buf.len() {
-        let got = libc::read(STDIN_FILENO, &mut buf[done..]);
-        if got < 0 {
+        let Ok(more) = reader.read(&mut buf[done..]) else {
             return Input::Failed;
-        }
-        let more = io::count(got, &buf[done..]);
+        };
         if more == 0 {
             return Input::Bytes(done);
         }
@@ -33,22 +31,31 @@ fn fill(buf: &mut [u8]) -> Input
     Input::Bytes(done)
 }
 
+// A program's name and what failed, on standard error. Where that fails too, nobody is left to be told.
+fn say<E: Write>(errors: &mut E, name: &[u8], what: &[u8]) {
+    let _ = errors.write_all(name);
+    let _ = errors.write_all(what);
+}
+
 // The input of the program of this name into the buffer; a read that fails is said.
-pub fn read_input(name: &[u8], buf: &mut [u8]) -> Input
+pub fn read_input<R: Read, E: Write>(
+    reader: &mut R,
+    errors: &mut E,
+    name: &[u8],
+    buf: &mut [u8],
+) -> Input
     ensures { AtMost (length buf.new) result }
 {
-    let input = fill(buf);
+    let input = fill(reader, buf);
     if let Input::Failed = input {
-        io::write_all(STDERR_FILENO, name);
-        io::write_all(STDERR_FILENO, b": cannot read\n");
+        say(errors, name, b": cannot read\n");
     }
     input
 }
 
 // The text to standard output; a write that fails is said.
-pub fn write_output(name: &[u8], text: &[u8]) {
-    if !io::write_all(STDOUT_FILENO, text) {
-        io::write_all(STDERR_FILENO, name);
-        io::write_all(STDERR_FILENO, b": cannot write\n");
+pub fn write_output<W: Write, E: Write>(writer: &mut W, errors: &mut E, name: &[u8], text: &[u8]) {
+    if writer.write_all(text).is_err() {
+        say(errors, name, b": cannot write\n");
     }
 }

@@ -13,27 +13,27 @@ const IN: usize = 4096;
 const BAR: u8 = b'|';
 
 // The text of one case.
-fn show(case: &[u8]) {
+fn show(rt: &HostRuntime, case: &[u8]) {
     let mut out = [0u8; OUT];
     let end = table_text(case, &mut out);
-    write_output(b"optable_cases", &out[..end]);
+    write_output(&mut rt.stdout(), &mut rt.stderr(), b"optable_cases", &out[..end]);
 }
 
 // The texts of all cases.
-fn show_all(bytes: &[u8]) {
+fn show_all(rt: &HostRuntime, bytes: &[u8]) {
     let mut at = 0;
     while at < bytes.len() {
         let end = end_of(bytes, at, BAR);
-        show(&bytes[at..end]);
+        show(rt, &bytes[at..end]);
         at = end + 1;
     }
 }
 
-fn main() {
+fn main(rt: HostRuntime) {
     let mut bytes = [0u8; IN];
-    let input = read_input(b"optable_cases", &mut bytes);
+    let input = read_input(&mut rt.stdin(), &mut rt.stderr(), b"optable_cases", &mut bytes);
     let Input::Bytes(n) = input else {
         return;
     };
-    show_all(&bytes[..n]);
+    show_all(&rt, &bytes[..n]);
 }

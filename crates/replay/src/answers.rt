@@ -4,11 +4,11 @@ ghost use Rattle.replay.specs.Buffers.{tray_room};
 
 use count::entry::{CountAnswer, loop_count};
 use cycles::entry::{CyclesAnswer, cycle_walk};
-use libc::STDOUT_FILENO;
 use order::entry::{OrderAnswer, topological_call_order};
 use sheets::module::{SheetAnswer, WIDTH, module_sheet};
 use stack::entry::{StackAnswer, stack_walk};
 use stack::height::Delta;
+use std::io::{Result, Write};
 use words::limits::CHUNKS;
 use words::reader::{Reading, read_module};
 
@@ -32,33 +32,28 @@ const ORDER: u32 = 5;
 
 const SHEET: u32 = 6;
 
-fn write(text: &[u8]) {
-    io::write_all(STDOUT_FILENO, text);
-}
-
 // A number behind what stands there already.
-fn write_number(n: u64) {
-    io::print_decimal(STDOUT_FILENO, n);
+fn write_number<W: Write>(out: &mut W, n: u64) -> Result<()> {
+    write!(out, "{n}")
 }
 
-fn write_signed(n: i64) {
+fn write_signed<W: Write>(out: &mut W, n: i64) -> Result<()> {
     if n < 0 {
-        write(b"-");
+        out.write_all(b"-")?;
         let less = -(n + 1);
-        write_number(less as u64 + 1);
-        return;
+        return write_number(out, less as u64 + 1);
     }
-    write_number(n as u64);
+    write_number(out, n as u64)
 }
 
 // The line of a refusal.
-fn write_refused(number: u32, chunk: usize, place: usize) {
-    write(b"refused ");
-    write_number(number as u64);
-    write(b" ");
-    write_number(chunk as u64);
-    write(b" ");
-    write_number(place as u64);
+fn write_refused<W: Write>(out: &mut W, number: u32, chunk: usize, place: usize) -> Result<()> {
+    out.write_all(b"refused ")?;
+    write_number(out, number as u64)?;
+    out.write_all(b" ")?;
+    write_number(out, chunk as u64)?;
+    out.write_all(b" ")?;
+    write_number(out, place as u64)
 }
 
 fn wide(w: u32) -> u64 {
@@ -66,88 +61,89 @@ fn wide(w: u32) -> u64 {
 }
 
 // All numbers of a tray of so much room, what the call left as it was among them.
-fn write_tray(tray: &[u32; TRAY], room: usize) {
-    write(b", tray");
+fn write_tray<W: Write>(out: &mut W, tray: &[u32; TRAY], room: usize) -> Result<()> {
+    out.write_all(b", tray")?;
     let mut i = 0;
     while i < TRAY {
         if room <= i {
-            return;
+            return Ok(());
         }
-        write(b" ");
-        write_number(wide(tray[i]));
+        out.write_all(b" ")?;
+        write_number(out, wide(tray[i]))?;
         i += 1;
     }
+    Ok(())
 }
 
-fn show_read(words: &[u32]) {
+fn show_read<W: Write>(out: &mut W, words: &[u32]) -> Result<()> {
     let reading = read_module(words);
     match reading {
-        Reading::Accepted(n) => write_number(n as u64),
-        Reading::Refused { number, place } => write_refused(number, 0, place),
+        Reading::Accepted(n) => write_number(out, n as u64),
+        Reading::Refused { number, place } => write_refused(out, number, 0, place),
     }
 }
 
-fn show_count(words: &[u32], c: usize, p: usize) {
+fn show_count<W: Write>(out: &mut W, words: &[u32], c: usize, p: usize) -> Result<()> {
     let answer = loop_count(words, c, p);
     match answer {
-        CountAnswer::Is(n) => write_number(n as u64),
+        CountAnswer::Is(n) => write_number(out, n as u64),
         CountAnswer::Refused {
             number,
             chunk,
             place,
-        } => write_refused(number, chunk, place),
+        } => write_refused(out, number, chunk, place),
     }
 }
 
 // A yes or no behind a space, as 1 or 0.
-fn write_flag(is: bool) {
+fn write_flag<W: Write>(out: &mut W, is: bool) -> Result<()> {
     if is {
-        write(b" 1");
+        out.write_all(b" 1")
     } else {
-        write(b" 0");
+        out.write_all(b" 0")
     }
 }
 
 // The cycles, whether the row ends, and whether the cycles are cut.
-fn show_cycles(words: &[u32], c: usize) {
+fn show_cycles<W: Write>(out: &mut W, words: &[u32], c: usize) -> Result<()> {
     let answer = cycle_walk(words, c);
     match answer {
         CyclesAnswer::Are { cycles, ends, cut } => {
-            write_number(cycles as u64);
-            write_flag(ends);
-            write_flag(cut);
+            write_number(out, cycles as u64)?;
+            write_flag(out, ends)?;
+            write_flag(out, cut)
         }
         CyclesAnswer::Refused {
             number,
             chunk,
             place,
-        } => write_refused(number, chunk, place),
+        } => write_refused(out, number, chunk, place),
     }
 }
 
-fn write_delta(delta: Delta) {
+fn write_delta<W: Write>(out: &mut W, delta: Delta) -> Result<()> {
     match delta {
-        Delta::Offset(n) => write_signed(n),
-        Delta::Ends => write(b"ends"),
+        Delta::Offset(n) => write_signed(out, n),
+        Delta::Ends => out.write_all(b"ends"),
     }
 }
 
 // Peak, delta or "ends", and bytes.
-fn show_stack(words: &[u32], c: usize, callees: &[u32]) {
+fn show_stack<W: Write>(out: &mut W, words: &[u32], c: usize, callees: &[u32]) -> Result<()> {
     let answer = stack_walk(words, c, callees);
     match answer {
         StackAnswer::Is { peak, delta, bytes } => {
-            write_number(peak.0 as u64);
-            write(b" ");
-            write_delta(delta);
-            write(b" ");
-            write_number(bytes.0 as u64);
+            write_number(out, peak.0 as u64)?;
+            out.write_all(b" ")?;
+            write_delta(out, delta)?;
+            out.write_all(b" ")?;
+            write_number(out, bytes.0 as u64)
         }
         StackAnswer::Refused {
             number,
             chunk,
             place,
-        } => write_refused(number, chunk, place),
+        } => write_refused(out, number, chunk, place),
     }
 }
 
@@ -159,20 +155,20 @@ fn order_front(words: &[u32], tray: &mut [u32], room: usize) -> OrderAnswer
 }
 
 // How many chunks are listed, and the tray.
-fn show_order(words: &[u32], room: usize)
+fn show_order<W: Write>(out: &mut W, words: &[u32], room: usize) -> Result<()>
     requires { room ≤ tray_room }
 {
     let mut tray = [MARK; TRAY];
     let answer = order_front(words, &mut tray, room);
     match answer {
-        OrderAnswer::Listed(n) => write_number(n as u64),
+        OrderAnswer::Listed(n) => write_number(out, n as u64)?,
         OrderAnswer::Refused {
             number,
             chunk,
             place,
-        } => write_refused(number, chunk, place),
+        } => write_refused(out, number, chunk, place)?,
     }
-    write_tray(&tray, room);
+    write_tray(out, &tray, room)
 }
 
 // The module sheet in the first words of a tray.
@@ -183,34 +179,42 @@ fn sheet_front(words: &[u32], tray: &mut [u32], room: usize) -> SheetAnswer
 }
 
 // How many chunks have a line, and the tray.
-fn show_sheet(words: &[u32], room: usize)
+fn show_sheet<W: Write>(out: &mut W, words: &[u32], room: usize) -> Result<()>
     requires { room ≤ tray_room }
 {
     let mut tray = [MARK; TRAY];
     let answer = sheet_front(words, &mut tray, room);
     match answer {
-        SheetAnswer::Lines(n) => write_number(n as u64),
+        SheetAnswer::Lines(n) => write_number(out, n as u64)?,
         SheetAnswer::Refused {
             number,
             chunk,
             place,
-        } => write_refused(number, chunk, place),
+        } => write_refused(out, number, chunk, place)?,
     }
-    write_tray(&tray, room);
+    write_tray(out, &tray, room)
 }
 
 // The answer of a question. A number that none has is answered by an empty line.
-pub fn answer(question: u32, words: &[u32], c: usize, p: usize, callees: &[u32], room: usize)
+pub fn answer<W: Write>(
+    out: &mut W,
+    question: u32,
+    words: &[u32],
+    c: usize,
+    p: usize,
+    callees: &[u32],
+    room: usize,
+) -> Result<()>
     requires { room ≤ tray_room }
 {
     match question {
-        READ => show_read(words),
-        COUNT => show_count(words, c, p),
-        CYCLES => show_cycles(words, c),
-        STACK => show_stack(words, c, callees),
-        ORDER => show_order(words, room),
-        SHEET => show_sheet(words, room),
+        READ => show_read(out, words)?,
+        COUNT => show_count(out, words, c, p)?,
+        CYCLES => show_cycles(out, words, c)?,
+        STACK => show_stack(out, words, c, callees)?,
+        ORDER => show_order(out, words, room)?,
+        SHEET => show_sheet(out, words, room)?,
         _ => {}
     }
-    write(b"\n");
+    out.write_all(b"\n")
 }

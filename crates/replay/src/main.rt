@@ -10,7 +10,7 @@ ghost use Rattle.std.specs.Prelude.{◌≤◌, ◌/◌, length};
 ghost use Rattle.replay.specs.Buffers.{tray_room, word_room};
 
 use crate::answers::{STACK, TRAY, answer};
-use libc::STDIN_FILENO;
+use std::io::{Read, Result, Write};
 use text::to_words;
 use words::limits;
 
@@ -27,10 +27,10 @@ const HIGH: usize = 4294967296;
 const QUESTIONS: usize = 1000;
 
 // So many bytes of the input to the front of a buffer; false where the input ends before.
-fn take_bytes(bytes: &mut [u8], n: usize) -> bool
+fn take_bytes<R: Read>(input: &mut R, bytes: &mut [u8], n: usize) -> bool
     requires { n ≤ length bytes.old }
 {
-    io::read_full(STDIN_FILENO, &mut bytes[..n]) == n
+    input.read_exact(&mut bytes[..n]).is_ok()
 }
 
 // The numbers of the first n bytes.
@@ -41,11 +41,11 @@ fn put_numbers(bytes: &[u8], n: usize, numbers: &mut [u32])
 }
 
 // So many numbers of the input to the front of a buffer; false where the input ends before.
-fn take(numbers: &mut [u32], n: usize) -> bool
+fn take<R: Read>(input: &mut R, numbers: &mut [u32], n: usize) -> bool
     requires { (n ≤ length numbers.old) × (n ≤ word_room) }
 {
     let mut bytes = [0u8; 4 * WORDS];
-    if !take_bytes(&mut bytes, 4 * n) {
+    if !take_bytes(input, &mut bytes, 4 * n) {
         return false;
     }
     put_numbers(&bytes, 4 * n, numbers);
@@ -53,36 +53,53 @@ fn take(numbers: &mut [u32], n: usize) -> bool
 }
 
 // The callees, if the question has any.
-fn take_callees(question: u32, callees: &mut [u32], room: usize) -> bool
+fn take_callees<R: Read>(input: &mut R, question: u32, callees: &mut [u32], room: usize) -> bool
     requires { (room ≤ length callees.old) × (room ≤ word_room) }
 {
     if question == STACK {
-        return take(callees, room);
+        return take(input, callees, room);
     }
     true
 }
 
 // The answer for the first n words and the first callees of their buffers.
-fn answer_front(q: u32, words: &[u32], n: usize, c: usize, p: usize, callees: &[u32], room: usize)
+fn answer_front<W: Write>(
+    out: &mut W,
+    q: u32,
+    words: &[u32],
+    n: usize,
+    c: usize,
+    p: usize,
+    callees: &[u32],
+    room: usize,
+) -> Result<()>
     requires { (n ≤ length words.now) × (room ≤ length callees.now) × (room ≤ tray_room) }
 {
-    answer(q, &words[..n], c, p, &callees[..room], room);
+    answer(out, q, &words[..n], c, p, &callees[..room], room)
 }
 
 // The callees and the words of a question, and its answer; false where the input ends before.
-fn ask(question: u32, c: usize, p: usize, room: usize, n: usize) -> bool
+fn ask<R: Read, W: Write>(
+    input: &mut R,
+    out: &mut W,
+    question: u32,
+    c: usize,
+    p: usize,
+    room: usize,
+    n: usize,
+) -> Result<bool>
     requires { (room ≤ tray_room) × (n ≤ word_room) }
 {
     let mut callees = [0u32; TRAY];
-    if !take_callees(question, &mut callees, room) {
-        return false;
+    if !take_callees(input, question, &mut callees, room) {
+        return Ok(false);
     }
     let mut words = [0u32; WORDS];
-    if !take(&mut words, n) {
-        return false;
+    if !take(input, &mut words, n) {
+        return Ok(false);
     }
-    answer_front(question, &words, n, c, p, &callees, room);
-    true
+    answer_front(out, question, &words, n, c, p, &callees, room)?;
+    Ok(true)
 }
 
 fn wide(w: u32) -> usize {
@@ -95,27 +112,28 @@ fn both(low: u32, high: u32) -> usize {
 }
 
 // One question; false where the input ends, or asks for more than there is room for.
-fn next_question() -> bool {
+fn next_question<R: Read, W: Write>(input: &mut R, out: &mut W) -> Result<bool> {
     let mut head = [0u32; HEAD];
-    if !take(&mut head, HEAD) {
-        return false;
+    if !take(input, &mut head, HEAD) {
+        return Ok(false);
     }
     let c = both(head[1], head[2]);
     let p = both(head[3], head[4]);
     let room = wide(head[5]);
     let n = wide(head[6]);
     if TRAY < room || WORDS < n {
-        return false;
+        return Ok(false);
     }
-    ask(head[0], c, p, room, n)
+    ask(input, out, head[0], c, p, room, n)
 }
 
-fn main() {
+fn main(rt: HostRuntime) -> Result<()> {
     let mut left = QUESTIONS;
     while 0 < left {
-        if !next_question() {
-            return;
+        if !next_question(&mut rt.stdin(), &mut rt.stdout())? {
+            return Ok(());
         }
         left -= 1;
     }
+    Ok(())
 }

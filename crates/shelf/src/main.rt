@@ -5,13 +5,13 @@
 use filter::{Input, read_input, write_output};
 use report::shelf::{SHELF_IN, SHELF_OUT, shelf_bytes};
 
-fn main() {
+fn main(rt: HostRuntime) {
     let mut bytes = [0u8; SHELF_IN];
-    let input = read_input(b"shelf", &mut bytes);
+    let input = read_input(&mut rt.stdin(), &mut rt.stderr(), b"shelf", &mut bytes);
     let Input::Bytes(n) = input else {
         return;
     };
     let mut out = [0u8; SHELF_OUT];
     let end = shelf_bytes(&bytes, n, &mut out);
-    write_output(b"shelf", &out[..end]);
+    write_output(&mut rt.stdout(), &mut rt.stderr(), b"shelf", &out[..end]);
 }
