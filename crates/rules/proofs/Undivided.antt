@@ -13,7 +13,7 @@ use Rattle.rules.specs.Form.{Chunk}
 use Rattle.rules.specs.Rows.{Row, end, step, stop, leave, leave_if, if_then, if_else, loop, chunk_row}
 use Rattle.rules.specs.Count.{count_of}
 use Rattle.rules.specs.Cycles.{unbroken, inner, charge_of, Cost, exact_cost, Cycles, cycles_of, row_cycles, chunk_cycles}
-use Rattle.rules.specs.Stack.{Delta, offset, ends, Height, greater_delta, part_delta, part_peak, unless_ended, during, behind, after_body, rise_of, move_of, row_height, Stack, stack_of, row_stack, chunk_stack}
+use Rattle.rules.specs.Stack.{Delta, offset, ends, Height, greater_delta, part_delta, part_peak, unless_ended, during, behind, after_body, rise_of, move_of, row_height, stack_of, row_stack, chunk_stack}
 use Rattle.rules.specs.StepClaims.{undivided, undivided_cost, undivided_cycles, undivided_height, undivided_stack, RefusedAlike, CyclesBelow, StackSame}
 use Rattle.rules.proofs.Below.{Below, less_n, LessCost, same_below, then_below, inner_below, walk_below}
 use Rattle.rules.proofs.TailStep.{spared, counts_below}

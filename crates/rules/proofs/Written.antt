@@ -11,7 +11,7 @@ use lib.ListN.{length, length-append}
 use lib.Signed.{mag}
 use Rattle.rules.specs.Limits.{b_unit, b_values, most_words, most_chunks}
 use Rattle.rules.specs.Outcome.{ok, no, demand}
-use Rattle.rules.specs.Ops.{kind, field_a, field_b, is_op}
+use Rattle.rules.specs.Ops.{field_a, field_b, is_op}
 use Rattle.rules.specs.Form.{Constant, integer, other, Chunk, constant_words, extra_words, chunk_words, module_words, ConstantFits, ChunkFits, ModuleFits, Each}
 use Rattle.rules.specs.Reading.{read}
 use Rattle.rules.specs.Writing.{Op, Draft, trimmed, op_word, op_in, filed, every, op_fits, constant_fits, draft_fits, draft_words, module_fits, write}

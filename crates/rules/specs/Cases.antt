@@ -7,9 +7,9 @@ use Rattle.rules.specs.Kinds as K
 use Rattle.rules.specs.Limits as M
 use Rattle.rules.specs.Outcome.{Outcome, answer, refused}
 use Rattle.rules.specs.Ops.{word}
-use Rattle.rules.specs.Form.{Constant, integer, other, Chunk, module_words}
+use Rattle.rules.specs.Form.{Constant, integer, Chunk, module_words}
 use Rattle.rules.specs.Cycles.{Cycles}
-use Rattle.rules.specs.Stack.{Stack, Delta, offset, ends}
+use Rattle.rules.specs.Stack.{Stack, Delta, offset}
 use Rattle.rules.specs.Sheet.{Sheet, read_outcome, count_outcome, cycles_outcome, stack_outcome, order_outcome, line_width, sheet_outcome}
 use Rattle.rules.specs.Text.{bytes_in, text_of, sheet_text}
 

@@ -1,5 +1,4 @@
 -- `put_bytes` writes the bytes one after the other: after i turns the first i of them stand there. Assumes nothing.
-use Prim.Native.Nat.{◌-◌}
 use mathlib.Core.Path.{refl, sym}
 use native.Mathlib.Omega.{arith}
 use lib.ListN.{length-set}

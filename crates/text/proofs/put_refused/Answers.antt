@@ -30,5 +30,5 @@ returns c =
     let last = c.put_field.ensures in
     let fields = more (second.written, second.next) (more (third.written, third.next) (more (last.written, last.next) done)) in
     let all = rw (refused_line a.number a.chunk a.place)
-        at (all_put (more (first.written, first.next) fields) (omega (arith, sizes a.number a.chunk a.place (omega arith) (omega arith) (omega arith)))) in
+    at (all_put (more (first.written, first.next) fields) (omega (arith, sizes a.number a.chunk a.place (omega arith) (omega arith) (omega arith)))) in
     record { written = all.0; next = all.1 }

@@ -1,6 +1,5 @@
 -- `put_words` writes the bytes of one word after those of the other: after i turns those of the first i words stand there.
 -- Assumes nothing.
-use Prim.Native.Nat.{◌-◌}
 use mathlib.Core.Path.{refl, sym}
 use native.Mathlib.Omega.{arith}
 use Rattle.rules.specs.Text.{bytes_in}

@@ -1,5 +1,4 @@
 -- `to_words` writes the words one after the other: after i turns the first i of them stand in front. Assumes nothing.
-use Prim.Native.Nat.{◌-◌}
 use mathlib.Core.Path.{refl, sym}
 use native.Mathlib.Omega.{arith}
 use lib.ListN.{length-set}

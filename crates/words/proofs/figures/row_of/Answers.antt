@@ -2,7 +2,6 @@
 use mathlib.Core.Path.{◌≡◌, refl, ◌∙◌}
 use mathlib.Core.Bool.{false}
 use mathlib.Core.List.{List, [], ◌∷◌}
-use mathlib.Core.Logic.{⊎_elim}
 use Prim.Native.Nat.{ℕ, ◌+◌, ◌*◌, ◌-◌, ◌/◌, ◌%◌, ◌^◌, ◌≤◌}
 use native.Mathlib.Omega.{arith}
 use lib.ListN.{get_or}
@@ -32,15 +31,16 @@ pub returns : goal.returns
 unfolding in_groups
 returns c =
     let chosen : c.match-k-div8.eight ≡ get_or eights (c.args.k / 8) 0 =
-        elim c.match-k-div8.branch [
-          in-0 w ↦ w.eight-is ∙ rw w.in-0.is
-        | in-1 w ↦ w.eight-is ∙ rw w.in-1.is
-        | in-2 w ↦ w.eight-is ∙ rw w.in-2.is
-        | in-3 w ↦ w.eight-is ∙ rw w.in-3.is
-        | in-4 w ↦ w.eight-is ∙ rw w.in-4.is
-        | in-5 w ↦ w.eight-is ∙ rw w.in-5.is
-        | in-6 w ↦ w.eight-is ∙ rw w.in-6.is
-        | in-7 w ↦ w.eight-is ∙ rw w.in-7.is
-        | in_default w ↦ let last : c.args.k / 8 ≡ 8 = omega arith in w.eight-is ∙ rw last ] in
+    elim c.match-k-div8.branch [
+      | in-0 w ↦ w.eight-is ∙ rw w.in-0.is
+      | in-1 w ↦ w.eight-is ∙ rw w.in-1.is
+      | in-2 w ↦ w.eight-is ∙ rw w.in-2.is
+      | in-3 w ↦ w.eight-is ∙ rw w.in-3.is
+      | in-4 w ↦ w.eight-is ∙ rw w.in-4.is
+      | in-5 w ↦ w.eight-is ∙ rw w.in-5.is
+      | in-6 w ↦ w.eight-is ∙ rw w.in-6.is
+      | in-7 w ↦ w.eight-is ∙ rw w.in-7.is
+      | in_default w ↦ let last : c.args.k / 8 ≡ 8 = omega arith in w.eight-is ∙ rw last
+    ] in
     rw chosen
     (same (λ k. false) (λ k. get_or eights (k / 8) 0 / 2 ^ (8 * (7 - k % 8)) % 256) row_of 66 refl c.args.k c.requires refl)

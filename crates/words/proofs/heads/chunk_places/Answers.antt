@@ -1,6 +1,6 @@
 -- `chunk_places` keeps each chunk's places at its index: the loop has those of the chunks passed, and stands at the next head.
 -- Assumes nothing.
-use Prim.Native.Nat.{◌<◌, ◌-◌}
+use Prim.Native.Nat.{◌<◌}
 use mathlib.Core.Path.{refl}
 use native.Mathlib.Omega.{arith}
 use Rattle.rules.proofs.ReadingAgrees.{read_words}

@@ -1,5 +1,4 @@
 -- `head_of` goes from head to head: after i chunks it stands at the head of chunk i. Assumes nothing.
-use Prim.Native.Nat.{◌-◌}
 use native.Mathlib.Omega.{arith}
 use Rattle.words.specs.Parts.{chunks_in}
 use Rattle.words.proofs.PartLaws.{first_head, at_within, next_at}

@@ -1,9 +1,8 @@
 -- `behind_run` passes words as long as their kinds are in the range: the run from the start is what was passed and the run from here.
 -- Assumes nothing.
-use Prim.Native.Nat.{◌-◌, ◌<◌}
+use Prim.Native.Nat.{◌<◌}
 use mathlib.Core.Logic.{⊎_elim}
 use native.Mathlib.Omega.{arith}
-use borrow.Author.Tests.{ltb-true, ltb-false}
 use lib.ListN.{length}
 use Rattle.words.proofs.RunLaws.{run_more, run_out, run_end}
 use Rattle.words.proofs.parts.behind_run.Goals as goal

@@ -1,7 +1,7 @@
 -- `broken_at` finds the place at which the form is broken. Invariant: the rest, read from the stage at hand, is broken where the whole is,
 -- and the stage's counter is at most the position. Measure: the words left. Assumes nothing.
 use mathlib.Core.Path.{◌≡◌, sym, ◌∙◌}
-use Prim.Native.Nat.{◌+◌, ◌-◌, ◌≤◌}
+use Prim.Native.Nat.{◌+◌, ◌≤◌}
 use lib.ListN.{length, drop}
 use Rattle.rules.specs.Reading.{broken_at}
 use Rattle.words.specs.Reader.{stage_of, counter}

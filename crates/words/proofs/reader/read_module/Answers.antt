@@ -3,7 +3,6 @@
 use mathlib.Core.Path.{◌≡◌, sym, ◌∙◌}
 use mathlib.Core.Bool.{true}
 use Prim.Native.Nat.{◌≤◌}
-use borrow.Author.Tests.{ltb-false, not-false}
 use lib.ListN.{length, get_or}
 use Rattle.rules.specs.Reading.{is_head}
 use Rattle.words.proofs.ReaderLaws.{whole}
