@@ -6,9 +6,7 @@ use Rattle.rules.specs.Reading.{take_while}
 use Rattle.rules.specs.Table as Table
 use Rattle.groups.specs.declared.line.Group.{Group}
 use Rattle.groups.specs.declared.line.Number.{Number}
-use Rattle.groups.specs.declared.line.Number.TheVariants as Number
 use Rattle.groups.specs.declared.line.LineGroup.{LineGroup}
-use Rattle.groups.specs.declared.line.LineGroup.TheVariants as LineGroup
 
 -- what stands before the first byte s, or all of it
 abbrev pub before : ℕ → List ℕ → List ℕ

@@ -1,6 +1,7 @@
 -- The row check of a chunk's parts is that of the chunk: what the crates above cite.
 -- Assumes nothing.
 use mathlib.Core.Path.{◌≡◌, sym, ◌∙◌}
+use mathlib.Core.Bool.{false}
 use mathlib.Core.List.{List}
 use Prim.Native.Nat.{ℕ, ◌≤◌}
 use native.Mathlib.Omega.{arith}
@@ -41,5 +42,5 @@ module _ {ws : List ℕ} {p : Parts} {k : Chunk} (parts : PartsOf ws p k) (short
       let (tree, (r, is_row), _, within) = range-row_ok k g (as_chunk e) in
       record {
         tree = rw same_ops tree;
-        fits = record { within = rw same_ops within; short = ops_short; has_row = rw same_ops (r, with_loop _ _ _ _ r is_row) };
+        fits = record { within = rw same_ops within; short = ops_short; has_row = rw same_ops (r, with_loop (op_at k.ops) false g.from g.to r is_row) };
       }
