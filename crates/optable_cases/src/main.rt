@@ -16,7 +16,12 @@ const BAR: u8 = b'|';
 fn show(rt: &HostRuntime, case: &[u8]) {
     let mut out = [0u8; OUT];
     let end = table_text(case, &mut out);
-    write_output(&mut rt.stdout(), &mut rt.stderr(), b"optable_cases", &out[..end]);
+    write_output(
+        &mut rt.stdout(),
+        &mut rt.stderr(),
+        b"optable_cases",
+        &out[..end],
+    );
 }
 
 // The texts of all cases.
@@ -31,7 +36,12 @@ fn show_all(rt: &HostRuntime, bytes: &[u8]) {
 
 fn main(rt: HostRuntime) {
     let mut bytes = [0u8; IN];
-    let input = read_input(&mut rt.stdin(), &mut rt.stderr(), b"optable_cases", &mut bytes);
+    let input = read_input(
+        &mut rt.stdin(),
+        &mut rt.stderr(),
+        b"optable_cases",
+        &mut bytes,
+    );
     let Input::Bytes(n) = input else {
         return;
     };
