@@ -13,9 +13,23 @@ use Rattle.rules.specs.Reading.{constants_of}
 use Rattle.rules.specs.Count.{tail_constant, step_of}
 use Rattle.count.specs.Count.{value_is}
 use Rattle.count.proofs.PassLaws.{back}
-use Rattle.count.proofs.CountLaws.{Tailed, tailed, step-read, both_known}
+use Rattle.count.proofs.CountLaws.{Tailed, no_loop, no_header, tailed, step-read, both_known}
 use Rattle.count.proofs.bound.extract_loop_iteration_bound.Goals as goal
-use Rattle.count.proofs.bound.extract_loop_iteration_bound.Goals.{Else-not-loop_body_advances_induction, In-Is-added}
+use Rattle.count.proofs.bound.extract_loop_iteration_bound.Goals.{
+  Else-not-loop_body_advances_induction,
+  In-Is-added,
+  then-ops-p-via-then-ops-p,
+  then-ops-p-via-else-ops-p+then-not-has_header,
+}
+
+pub returns-then-ops-p : goal.returns-then-ops-p
+returns-then-ops-p c =
+    let a = c.args in
+    let cs = constants_of a.constants.now in
+    elim c.then-ops-p.branch [
+      | then-ops-p-via-then-ops-p w ↦ sym (no_loop cs a.ops.now a.p w.if-ops-p.true)
+      | then-ops-p-via-else-ops-p+then-not-has_header w ↦ sym (no_header cs a.ops.now a.p w.has_header.ensures (ap not w.if-not-has_header.true))
+    ]
 
 -- behind the test for the tail: the two values and the step decide
 told : (c : Else-not-loop_body_advances_induction) → let a = c.args in
