@@ -1,6 +1,7 @@
 -- `stray_within` is `stray_break` on the tree of the range. The loop's invariant: what is left to be searched, with the targets of the open Loops in
 -- the array, finds what the whole search finds. Assumes nothing.
 use mathlib.Core.Path.{refl, sym}
+use mathlib.Core.Logic.{⊎_elim}
 use native.Mathlib.Omega.{arith}
 use lib.ListN.{length, get_or}
 use Rattle.rules.specs.Ops.{op_at}
@@ -10,11 +11,7 @@ use Rattle.rows.specs.Tree.{tree_of}
 use Rattle.rows.proofs.OpenLoops.{tree_left, none_left}
 use Rattle.rows.proofs.LoopArray.{IsBreak, SearchAt, carried, open_few, open_room, open_next, some_loop, close_next, break_loop, own_next, stray_found, other_next}
 use Rattle.rows.proofs.stray.stray_within.Goals as goal
-use Rattle.rows.proofs.stray.stray_within.Goals.{In-loop-i, Else-k-eq-END_LOOP, else-k-ge-LOOP}
-use Rattle.rows.proofs.stray.stray_within.Goals.{then-k-ge-LOOP+then-k-le-BREAK_IF+then-k-eq-LOOP}
-use Rattle.rows.proofs.stray.stray_within.Goals.{then-k-ge-LOOP+then-k-le-BREAK_IF+else-k-eq-LOOP+then-k-eq-END_LOOP}
-use Rattle.rows.proofs.stray.stray_within.Goals.{then-k-ge-LOOP+then-k-le-BREAK_IF+else-k-eq-LOOP+else-k-eq-END_LOOP+else-w-targets}
-use Rattle.rows.proofs.stray.stray_within.Goals.{else-k-ge-LOOP-via-then-k-ge-LOOP+else-k-le-BREAK_IF, else-k-ge-LOOP-via-else-k-ge-LOOP}
+use Rattle.rows.proofs.stray.stray_within.Goals.{In-loop-i, Else-k-eq-END_LOOP}
 
 -- the search at the op that was read
 at_op : (c : In-loop-i) → SearchAt (op_at c.args.ops.now) c.args.from c.args.to (length c.args.targets.now)
@@ -45,7 +42,7 @@ overflow_sub-loops c = some_loop (at_op (goal.at.overflow_sub-loops c).In-loop-i
 pub overflow_sub-loops-else-k-eq-END_LOOP : goal.overflow_sub-loops-else-k-eq-END_LOOP
 overflow_sub-loops-else-k-eq-END_LOOP c =
     let at = goal.at.overflow_sub-loops-else-k-eq-END_LOOP c in
-    break_loop (at_op at.In-loop-i) (is_break at.Else-k-eq-END_LOOP)
+    omega (arith, break_loop (at_op at.In-loop-i) (is_break at.Else-k-eq-END_LOOP))
 
 pub bounds-targets-loops-else-k-eq-END_LOOP : goal.bounds-targets-loops-else-k-eq-END_LOOP
 bounds-targets-loops-else-k-eq-END_LOOP c =
@@ -57,17 +54,15 @@ returns-then-w-targets c =
     let at = goal.at.returns-then-w-targets c in
     sym (stray_found (at_op at.In-loop-i) (is_break at.Else-k-eq-END_LOOP) c.if-w-targets.true)
 
+-- the cases by their place and not by name, which would name the constants of the first test
 pub loop-i-preserved : goal.loop-i-preserved
 loop-i-preserved c =
     let a = at_op (goal.at.loop-i-preserved c).In-loop-i in
-    elim c.if-k-ge-LOOP.branch [
-      | then-k-ge-LOOP+then-k-le-BREAK_IF+then-k-eq-LOOP w ↦ carried w.targets-is w.loops-is (open_next a w.if-k-eq-LOOP.true)
-      | then-k-ge-LOOP+then-k-le-BREAK_IF+else-k-eq-LOOP+then-k-eq-END_LOOP w ↦ carried w.targets-is w.loops-is (close_next a w.if-k-eq-END_LOOP.true)
-      | then-k-ge-LOOP+then-k-le-BREAK_IF+else-k-eq-LOOP+else-k-eq-END_LOOP+else-w-targets w ↦
-          carried w.targets-is w.loops-is (own_next a (omega arith) w.if-w-targets.false)
-      | else-k-ge-LOOP w ↦ carried w.targets-is w.loops-is (other_next a (λ low high. elim w.else-k-ge-LOOP.branch
-          [ else-k-ge-LOOP-via-then-k-ge-LOOP+else-k-le-BREAK_IF v ↦ omega arith | else-k-ge-LOOP-via-else-k-ge-LOOP v ↦ omega arith ]))
-    ]
+    ⊎_elim (λ w. carried w.targets-is w.loops-is (open_next a w.if-k-eq-LOOP.true))
+    (⊎_elim (λ w. carried w.targets-is w.loops-is (close_next a w.if-k-eq-END_LOOP.true))
+    (⊎_elim (λ w. carried w.targets-is w.loops-is (own_next a (omega arith) w.if-w-targets.false))
+    (λ w. carried w.targets-is w.loops-is (other_next a (λ low high. ⊎_elim (λ v. omega arith) (λ v. omega arith) w.else-k-ge-LOOP.branch-raw)))))
+    c.if-k-ge-LOOP.branch-raw
 
 pub returns : goal.returns
 returns c = sym (none_left _ _ _ c.loop-i.i _ c.loop-i-test.false c.loop-i.invariant.left)
