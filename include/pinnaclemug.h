@@ -1,4 +1,4 @@
-/* The proved functions for C and C++. Link the archive that `rt staticlib exports` writes; it is for x86-64 Linux.
+/* The proved functions for C and C++. Link the archive that `bash compare/archive` writes; it is for x86-64 Linux.
  *
  * Every function but pm_write takes filed words, document 01's 32-bit words in the machine's byte order; pm_write takes the parts of a module and writes
  * these words. Each returns one number: its answer, or a refusal.
