@@ -1,16 +1,10 @@
 -- `chunk_line` answers a chunk's line, or the first of refusals 3 to 9 and 11.
 -- Assumes nothing.
 use mathlib.Core.Path.{refl}
-use Rattle.rows.proofs.PartRows.{ops_short, row_there}
+use Rattle.rows.proofs.PartRows.{row_there}
 use Rattle.stack.proofs.EntryLaws.{range_fits}
-use Rattle.lines.proofs.LineLaws.{row_told, line_told}
+use Rattle.lines.proofs.LineLaws.{line_told}
 use Rattle.lines.proofs.line.chunk_line.Goals as goal
-
-pub chunk_row-row-requires : goal.chunk_row-row-requires
-chunk_row-row-requires c = ops_short c.requires.parts c.requires.short c.ops_of-ops.ensures
-
-pub returns-in-Refused : goal.returns-in-Refused
-returns-in-Refused c = λ k parts. row_told c.requires c.ops_of-ops.ensures c.args.callees.now c.args.wholes.now k parts _ _ c.in-Refused.ensures
 
 pub chunk_costs-costs-requires : goal.chunk_costs-costs-requires
 chunk_costs-costs-requires c = (row_there c.requires.parts c.requires.short c.ops_of-ops.ensures c.in-Is.ensures).fits
