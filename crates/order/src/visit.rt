@@ -59,7 +59,8 @@ pub fn topo_visit(
     while i < end {
         let w = words[i];
         let callee = (w % fields::B_UNIT) as usize;
-        if w / fields::KIND_UNIT == kinds::CALL && callee < n && (left == 1 || !t.seen[callee]) {
+        let is_call = w / fields::KIND_UNIT == kinds::CALL;
+        if is_call && callee < n && (left == 1 || !t.seen[callee]) {
             t = topo_visit(words, ops_at, extras_at, n, callee, t, left - 1);
             if t.ring < CHUNKS {
                 return t;

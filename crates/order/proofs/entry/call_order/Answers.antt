@@ -20,12 +20,6 @@ loop-c-init c = let words = c.requires.words in
 pub bounds-s-c : goal.bounds-s-c
 bounds-s-c c = omega (arith, few-chunks c.requires.words)
 
-pub overflow_add-n : goal.overflow_add-n
-overflow_add-n c = omega (arith, few-chunks c.requires.words)
-
-pub topo_visit-s-requires : goal.topo_visit-s-requires
-topo_visit-s-requires c = asked (goal.at.topo_visit-s-requires c).In-loop-c
-
 pub returns-then-s-lt-CHUNKS : goal.returns-then-s-lt-CHUNKS
 returns-then-s-lt-CHUNKS c = walk-ring c.loop-c.invariant _ c.loop-c-test.true c.topo_visit-s.ensures c.if-s-lt-CHUNKS.true
 

@@ -9,7 +9,7 @@ use Rattle.order.proofs.VisitLaws.{few-chunks, ops-within, Opens, inside, passes
 use Rattle.order.proofs.VisitLaws.{visited_none, visited_open, visited_listed, visited_ring, visited_end}
 use Rattle.order.proofs.visit.+topo_visit.Goals as goal
 use Rattle.order.proofs.visit.+topo_visit.Goals.{Else-t-c-2, Start, then-left-eq0-via-then-left-eq0, then-left-eq0-via-else-left-eq0+then-t-c}
-use Rattle.order.proofs.visit.+topo_visit.Goals.{then-w-eq-CALL+then-callee-n+then-not-t-callee+else-t-lt-CHUNKS, then-left-eq1, else-left-eq1, else-w-eq-CALL, else-w-eq-CALL-via-then-w-eq-CALL+then-callee-n+else-not-t-callee, else-w-eq-CALL-via-then-w-eq-CALL+else-callee-n, else-w-eq-CALL-via-else-w-eq-CALL}
+use Rattle.order.proofs.visit.+topo_visit.Goals.{then-is_call+then-callee-n+then-not-t-callee+else-t-lt-CHUNKS, then-left-eq1, else-left-eq1, else-is_call, else-is_call-via-then-is_call+then-callee-n+else-not-t-callee, else-is_call-via-then-is_call+else-callee-n, else-is_call-via-else-is_call}
 
 small : (t : ℕ) (c : Start t) → c.args.c < 256
 small t c = omega (arith, few-chunks c.requires.places.words)
@@ -47,7 +47,7 @@ topo_visit-t-requires t c = (omega arith, inside (opens t (goal.at.topo_visit-t-
 
 pub returns-then-t-lt-CHUNKS : goal.returns-then-t-lt-CHUNKS
 returns-then-t-lt-CHUNKS t c =
-    visited_ring (opens t (goal.at.returns-then-t-lt-CHUNKS t c).Else-t-c-2) c.loop-i.invariant _ c.loop-i-test.true c.if-w-eq-CALL.true
+    visited_ring (opens t (goal.at.returns-then-t-lt-CHUNKS t c).Else-t-c-2) c.loop-i.invariant _ c.loop-i-test.true c.if-is_call.true
     c.if-callee-n.true c.topo_visit-t.ensures c.if-t-lt-CHUNKS.true
 
 pub loop-i-preserved : goal.loop-i-preserved
@@ -55,21 +55,21 @@ loop-i-preserved t c =
     let more = c.loop-i-test.true in
     let rest = c.loop-i.invariant in
     let few = few-chunks c.requires.places.words in
-    elim c.if-w-eq-CALL.branch [
-      | then-w-eq-CALL+then-callee-n+then-not-t-callee+else-t-lt-CHUNKS w ↦
-          rw w.t-is (rest-visits rest _ more w.if-w-eq-CALL.true w.if-callee-n.true w.topo_visit-t.ensures few w.if-t-lt-CHUNKS.false)
-      | else-w-eq-CALL w ↦
+    elim c.if-is_call.branch [
+      | then-is_call+then-callee-n+then-not-t-callee+else-t-lt-CHUNKS w ↦
+          rw w.t-is (rest-visits rest _ more w.if-is_call.true w.if-callee-n.true w.topo_visit-t.ensures few w.if-t-lt-CHUNKS.false)
+      | else-is_call w ↦
           rw w.t-is
-          (elim w.else-w-eq-CALL.branch [
-            | else-w-eq-CALL-via-then-w-eq-CALL+then-callee-n+else-not-t-callee v ↦
+          (elim w.else-is_call.branch [
+            | else-is_call-via-then-is_call+then-callee-n+else-not-t-callee v ↦
                 elim v.if-left-eq1.branch [
                   | then-left-eq1 u ↦ absurd (eqb-false _ _ (sym u.value-is ∙ v.if-not-t-callee.false) u.if-left-eq1.true)
                   | else-left-eq1 u ↦
-                      passes (opens t (goal.at.loop-i-preserved t c).Else-t-c-2) rest more v.if-w-eq-CALL.true v.if-callee-n.true (λ z. omega arith)
+                      passes (opens t (goal.at.loop-i-preserved t c).Else-t-c-2) rest more v.if-is_call.true v.if-callee-n.true (λ z. omega arith)
                       (not-false _ (sym u.value-is ∙ v.if-not-t-callee.false))
                 ]
-            | else-w-eq-CALL-via-then-w-eq-CALL+else-callee-n v ↦ rest_skips rest more (λ h. v.if-callee-n.false)
-            | else-w-eq-CALL-via-else-w-eq-CALL v ↦ rest_skips rest more (λ h. absurd (v.if-w-eq-CALL.false h))
+            | else-is_call-via-then-is_call+else-callee-n v ↦ rest_skips rest more (λ h. v.if-callee-n.false)
+            | else-is_call-via-else-is_call v ↦ rest_skips rest more (λ h. absurd (v.if-is_call.false h))
           ])
     ]
 
