@@ -28,7 +28,7 @@ returns c =
     let extras : length (trimmed xs) ≡ c.kept-n.result = ap length c.kept-n.ensures.1 ∙ length-take-le c.kept-n.result xs c.kept-n.ensures.0 in
     let constants-fit = sym c.constants_fit.ensures ∙ c.if-not-constants_fit.false in
     let ops-fit = sym c.ops_fit.ensures ∙ c.if-not-ops_fit.false in
-    let fits = all_parts_fit a.h.locals a.h.mode ks os xs c.if-h-ge-B_UNIT.false c.if-h-gt-STREAM_TYPE.false constants-fit ops-fit
+    let fits = all_parts_fit a.h.locals a.h.mode ks os xs (omega arith) (omega arith) constants-fit ops-fit
     (extras_fit xs (λ i h. omega (arith, c.type_inv.extras i))) (omega (arith, ops, extras, c.if-h-n.false)) in
     rw fits
     (ap found
