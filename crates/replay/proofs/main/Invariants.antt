@@ -1,0 +1,5 @@
+-- `main` asks for at most so many questions. Assumes nothing.
+use Rattle.replay.proofs.main.Given as goal
+
+abbrev pub decreases-loop-left : goal.decreases-loop-left
+decreases-loop-left l = l.left
