@@ -6,6 +6,6 @@ use Rattle.report.proofs.shelf.numbers_bytes.Goals as goal
 
 pub returns : goal.returns
 returns c =
-    let e = same_filed _ (lists_apart c.args.numbers.now c.if-numbers-lt-HEAD.false c.if-numbers-ne0.false (omega (arith, c.if-end-numbers.false)))
+    let e = same_filed _ (lists_apart c.args.numbers.now c.if-numbers-lt-HEAD.false (omega arith) (omega arith))
     (c.lists_bytes.ensures.written, c.lists_bytes.ensures.next) in
     record { written = e.0; next = e.1 }
