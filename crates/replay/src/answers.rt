@@ -32,6 +32,10 @@ const ORDER: u32 = 5;
 
 const SHEET: u32 = 6;
 
+fn write<W: Write>(out: &mut W, text: &[u8]) -> Result<()> {
+    out.write_all(text)
+}
+
 // A number behind what stands there already.
 fn write_number<W: Write>(out: &mut W, n: u64) -> Result<()> {
     write!(out, "{n}")
@@ -39,7 +43,7 @@ fn write_number<W: Write>(out: &mut W, n: u64) -> Result<()> {
 
 fn write_signed<W: Write>(out: &mut W, n: i64) -> Result<()> {
     if n < 0 {
-        out.write_all(b"-")?;
+        write(out, b"-")?;
         let less = -(n + 1);
         return write_number(out, less as u64 + 1);
     }
@@ -48,11 +52,11 @@ fn write_signed<W: Write>(out: &mut W, n: i64) -> Result<()> {
 
 // The line of a refusal.
 fn write_refused<W: Write>(out: &mut W, number: u32, chunk: usize, place: usize) -> Result<()> {
-    out.write_all(b"refused ")?;
+    write(out, b"refused ")?;
     write_number(out, number as u64)?;
-    out.write_all(b" ")?;
+    write(out, b" ")?;
     write_number(out, chunk as u64)?;
-    out.write_all(b" ")?;
+    write(out, b" ")?;
     write_number(out, place as u64)
 }
 
@@ -62,13 +66,13 @@ fn wide(w: u32) -> u64 {
 
 // All numbers of a tray of so much room, what the call left as it was among them.
 fn write_tray<W: Write>(out: &mut W, tray: &[u32; TRAY], room: usize) -> Result<()> {
-    out.write_all(b", tray")?;
+    write(out, b", tray")?;
     let mut i = 0;
     while i < TRAY {
         if room <= i {
             return Ok(());
         }
-        out.write_all(b" ")?;
+        write(out, b" ")?;
         write_number(out, wide(tray[i]))?;
         i += 1;
     }
@@ -98,9 +102,9 @@ fn show_count<W: Write>(out: &mut W, words: &[u32], c: usize, p: usize) -> Resul
 // A yes or no behind a space, as 1 or 0.
 fn write_flag<W: Write>(out: &mut W, is: bool) -> Result<()> {
     if is {
-        out.write_all(b" 1")
+        write(out, b" 1")
     } else {
-        out.write_all(b" 0")
+        write(out, b" 0")
     }
 }
 
@@ -124,7 +128,7 @@ fn show_cycles<W: Write>(out: &mut W, words: &[u32], c: usize) -> Result<()> {
 fn write_delta<W: Write>(out: &mut W, delta: Delta) -> Result<()> {
     match delta {
         Delta::Offset(n) => write_signed(out, n),
-        Delta::Ends => out.write_all(b"ends"),
+        Delta::Ends => write(out, b"ends"),
     }
 }
 
@@ -134,9 +138,9 @@ fn show_stack<W: Write>(out: &mut W, words: &[u32], c: usize, callees: &[u32]) -
     match answer {
         StackAnswer::Is { peak, delta, bytes } => {
             write_number(out, peak.0 as u64)?;
-            out.write_all(b" ")?;
+            write(out, b" ")?;
             write_delta(out, delta)?;
-            out.write_all(b" ")?;
+            write(out, b" ")?;
             write_number(out, bytes.0 as u64)
         }
         StackAnswer::Refused {
@@ -216,5 +220,5 @@ pub fn answer<W: Write>(
         SHEET => show_sheet(out, words, room)?,
         _ => {}
     }
-    out.write_all(b"\n")
+    write(out, b"\n")
 }
