@@ -24,8 +24,7 @@ fn store(out: &mut [i64], peak: u32, delta: i64, bytes: u32)
 }
 
 // The stack walk of chunk c over the callees' bytes: peak, delta (0 where the row ends) and bytes into out; 1 where the row ends, else 0.
-#[unsafe(no_mangle)]
-pub extern "C" fn pm_stack(words: &[u32], c: u32, callees: &[u32], out: &mut [i64; 3]) -> u64
+pub fn pm_stack(words: &[u32], c: u32, callees: &[u32], out: &mut [i64; 3]) -> u64
     ensures answer { result ≡ packed_stack (stack_outcome words.now c callees.now) }
     ensures written { out.new ≡ stack_numbers (stack_outcome words.now c callees.now) out.old }
 {
@@ -50,8 +49,7 @@ pub extern "C" fn pm_stack(words: &[u32], c: u32, callees: &[u32], out: &mut [i6
 }
 
 // The call order into the tray: how many chunks stand there.
-#[unsafe(no_mangle)]
-pub extern "C" fn pm_order(words: &[u32], tray: &mut [u32]) -> u64
+pub fn pm_order(words: &[u32], tray: &mut [u32]) -> u64
     ensures answer { result ≡ packed_number (length_of (order_outcome words.now (length tray.old))) }
     ensures written { tray.new ≡ order_tray (order_outcome words.now (length tray.old)) tray.old }
 {
@@ -67,8 +65,7 @@ pub extern "C" fn pm_order(words: &[u32], tray: &mut [u32]) -> u64
 }
 
 // The module sheet into the tray: how many chunks have their lines there.
-#[unsafe(no_mangle)]
-pub extern "C" fn pm_sheet(words: &[u32], tray: &mut [u32]) -> u64
+pub fn pm_sheet(words: &[u32], tray: &mut [u32]) -> u64
     ensures answer { result ≡ packed_number (count_of (sheet_outcome words.now (length tray.old))) }
     ensures written { tray.new ≡ sheet_tray (sheet_outcome words.now (length tray.old)) tray.old }
 {
@@ -84,8 +81,7 @@ pub extern "C" fn pm_sheet(words: &[u32], tray: &mut [u32]) -> u64
 }
 
 // The words of the module that the four lists hold, into the tray: how many words stand there.
-#[unsafe(no_mangle)]
-pub extern "C" fn pm_write(
+pub fn pm_write(
     chunks: &[u32],
     constants: &[u32],
     ops: &[u32],

@@ -1,4 +1,5 @@
-// The proved functions under plain names, for programs in other languages to link: include/pinnaclemug.h has their C signatures, and how a refusal is packed.
+// The proved functions under plain names, each with one number for an answer: include/pinnaclemug.h says how a refusal is packed. The crate `exports_c` hands them to
+// programs in other languages.
 
 #![tactic(auto)]
 
@@ -36,8 +37,7 @@ fn pack_refusal(number: u32, chunk: usize, place: usize) -> u64
 }
 
 // The reader: the chunk count.
-#[unsafe(no_mangle)]
-pub extern "C" fn pm_read(words: &[u32]) -> u64
+pub fn pm_read(words: &[u32]) -> u64
     ensures { result ≡ packed_number (read_outcome words.now) }
 {
     let reading = read_module(words);
@@ -48,8 +48,7 @@ pub extern "C" fn pm_read(words: &[u32]) -> u64
 }
 
 // The count of the loop at position p of chunk c.
-#[unsafe(no_mangle)]
-pub extern "C" fn pm_count(words: &[u32], c: u32, p: u32) -> u64
+pub fn pm_count(words: &[u32], c: u32, p: u32) -> u64
     ensures { result ≡ packed_number (count_outcome words.now c p) }
 {
     let answer = loop_count(words, c as usize, p as usize);
@@ -72,8 +71,7 @@ fn flag(is: bool, value: u64) -> u64
 }
 
 // The cycle walk of chunk c: its cycles, 2^32 more if its row ends, and 2^33 more if its cycles are cut.
-#[unsafe(no_mangle)]
-pub extern "C" fn pm_cycles(words: &[u32], c: u32) -> u64
+pub fn pm_cycles(words: &[u32], c: u32) -> u64
     ensures { result ≡ packed_cycles (cycles_outcome words.now c) }
 {
     let answer = cycle_walk(words, c as usize);

@@ -1,12 +1,14 @@
 -- `put_line` writes a field for the chunk, the cycles with their mark, and a field for each other number of the row. Assumes nothing.
 use Prim.Native.Nat.{ℕ, ◌+◌, ◌^◌, ◌<◌, ◌≤◌}
 use mathlib.Core.List.{List}
+use mathlib.Core.Path.{subst}
 use native.Mathlib.Omega.{arith}
 use lib.ListN.{length, get_or}
 use mir.Syntax.{w32}
 use mir.Val.{Fits}
 use Rattle.rules.specs.Text.{line_most}
 use Rattle.text.specs.Field.{field_text}
+use Rattle.text.specs.Paste.{Put}
 use Rattle.text.proofs.PasteLaws.{done, more, all_put}
 use Rattle.text.proofs.FieldLaws.{short_field}
 use Rattle.report.proofs.LinesLaws.{row_line, row_mark}
@@ -63,6 +65,9 @@ returns c =
     omega (arith, sizes c.args.c c.args.row.now (omega arith) c.type_inv.row, one.next, two.short, three.next, four.next, five.next) in
     let behind = more (three.written, three.next) (more (four.written, four.next) (more (five.written, five.next) done)) in
     record {
-      written = λ l is. rw (row_line c.args.c l is) at (all_put (more (one.written, one.next) (more (two.written l.cut (row_mark l is)) behind)) (omega (arith, short)));
+      written = λ l is.
+          let P : List ℕ → Type 0 = λ t. Put c.args.at t c.args.out.now c.put_field.new.out c.put_field.result in
+          subst P (row_line c.args.c l is)
+          (all_put (more (one.written, one.next) (more (two.written l.cut (row_mark l is)) behind)) (omega (arith, short)));
       short = short;
     }
