@@ -3,13 +3,12 @@
 use mathlib.Core.Path.{◌≡◌, refl, sym, ◌∙◌}
 use mathlib.Core.Bool.{Bool, true, false, not, ◌&&◌, and-true, and-false}
 use mathlib.Core.List.{List}
-use Prim.Native.Nat.{ℕ, suc, ◌+◌, ◌-◌, ◌<◌, ◌≤◌}
+use Prim.Native.Nat.{ℕ, suc, ◌+◌, ◌-◌, ◌≤◌}
 use native.Mathlib.Omega.{arith}
-use borrow.Author.Tests.{le-leb, lt-leb, leb-true, leb-false, eqb-true, eq-eqb, ne_eqb, not-true, not-false}
-use lib.Dec.{eqb, leb}
-use lib.ListN.{length, get_or, get_or-eq_default}
+use borrow.Author.Tests.{le-leb, eqb-true, eq-eqb, ne_eqb}
+use lib.Dec.{eqb}
+use lib.ListN.{get_or}
 use Rattle.rules.specs.Kinds as K
-use Rattle.rules.specs.Limits.{no_op}
 use Rattle.rules.specs.Ops.{kind, field_a, field_b, op_at}
 use Rattle.rules.specs.Form.{Constant, other}
 use Rattle.rules.specs.Count.{is_set_local, is_positive, never_sets, has_increment, has_tail}
@@ -17,24 +16,18 @@ use Rattle.rules.proofs.Flags.{both}
 use Rattle.words.proofs.Cases.{decide}
 use Rattle.count.proofs.NeverLaws.{neither, never-last, never_more}
 
--- past the end there is no EndLoop
-pub end-within : (ops : List ℕ) (n : ℕ) {b : Bool} → b ≡ eqb (kind (op_at ops n)) K.end_loop → not b ≡ false → n < length ops
-end-within ops n {b} e h =
-    let k = eqb-true (kind (op_at ops n)) K.end_loop (sym e ∙ not-false b h) in
-    decide (leb (length ops) n) (λ l. absurd (omega (arith, get_or-eq_default ops no_op (leb-true (length ops) n l)))) (λ l. leb-false (length ops) n l)
-
 -- a word that sets v sets e only if they are one
 sets_one : (w v e : ℕ) → is_set_local v w ≡ true → is_set_local e w ≡ eqb v e
 sets_one w v e h =
     let k = both (eqb (kind w) K.set_local) (eqb (field_a w) v) h in
     rw (k.0, eqb-true (field_a w) v k.1)
 
-regroup_last : (y a q c : Bool) → ((y && (a && not q)) && c) ≡ (y && (not q && (c && a)))
-regroup_last false a q c = refl
-regroup_last true true true c = refl
-regroup_last true true false c = sym (and-true c)
-regroup_last true false true c = refl
-regroup_last true false false c = sym (and-false c)
+-- three tests, the last of which come first
+regroup_last : (a q c : Bool) → ((a && not q) && c) ≡ (not q && (c && a))
+regroup_last true true c = refl
+regroup_last true false c = sym (and-true c)
+regroup_last false true c = refl
+regroup_last false false c = sym (and-false c)
 
 -- of the five ops that advance v, right before EndLoop at n, SetLocal v is the last; none of the four before it sets a slot, so that the pass can end
 -- before them
@@ -61,38 +54,28 @@ advances cs ops n v h =
           ∙ never_more ops s m i (rw (at5, eqb-true (kind (op_at ops (n - 5))) K.get_local get)),
     )
 
-module _ (cs : List Constant) (ops : List ℕ) (p n v e : ℕ) where
-  abbrev closed : Bool
-  closed = leb (p + 10) n && eqb (kind (op_at ops n)) K.end_loop
+-- the tail of a loop whose EndLoop is at n, far enough behind p
+module _ (cs : List Constant) (ops : List ℕ) (p n v e : ℕ) (long : p + 10 ≤ n) (ends : eqb (kind (op_at ops n)) K.end_loop ≡ true) where
+  -- with no increment there is no tail
+  pub no_increment : has_increment cs ops n v ≡ false → has_tail cs ops p n v e ≡ false
+  no_increment k = rw (le-leb (p + 10) n long, ends, k)
 
-  -- behind the increment v is set by the last op, so e is another slot, and one pass over the ops before it is enough for both
-  pub tail_once : p + 10 ≤ n → has_tail cs ops p n v e ≡ (closed && has_increment cs ops n v && (not (eqb v e) && neither ops v e (n - (p + 10)) (p + 5)))
-  tail_once l =
-      decide (has_increment cs ops n v)
-      (λ k.
+  -- v is set by the last op of the increment, so e is another slot, and one pass over the ops before it is enough for both
+  tail_once : has_increment cs ops n v ≡ true → has_tail cs ops p n v e ≡ (not (eqb v e) && neither ops v e (n - (p + 10)) (p + 5))
+  tail_once k =
       let (sets, past) = advances cs ops n v k in
       let m = n - (p + 10) in
       let near : n - (p + 6) ≡ suc (suc (suc (suc m))) = omega arith in
       let far : n - (p + 5) ≡ suc (suc (suc (suc (suc m)))) = omega arith in
       let last : p + 5 + suc (suc (suc (suc m))) ≡ n - 1 = omega arith in
       let end : p + 5 + m + 5 ≡ n = omega arith in
-      rw (k, near, far, never-last ops e (suc (suc (suc (suc m)))) (p + 5), last, sets_one (op_at ops (n - 1)) v e sets, past v m (p + 5) end, past e m (p + 5) end)
-      (regroup_last (closed && true) (never_sets ops e m (p + 5)) (eqb v e) (never_sets ops v m (p + 5))))
-      (λ k. rw (k, and-false closed))
+      rw (le-leb (p + 10) n long, ends, k, near, far, never-last ops e (suc (suc (suc (suc m)))) (p + 5), last, sets_one (op_at ops (n - 1)) v e sets, past v m (p + 5) end, past e m (p + 5) end)
+      (regroup_last (never_sets ops e m (p + 5)) (eqb v e) (never_sets ops v m (p + 5)))
 
-  pub short_loop : n < p + 10 → has_tail cs ops p n v e ≡ false
-  short_loop h = rw (lt-leb (p + 10) n h)
+  -- nor with one slot for both
+  pub one_slot : v ≡ e → has_tail cs ops p n v e ≡ false
+  one_slot h = decide (has_increment cs ops n v) (λ k. tail_once k ∙ rw (eq-eqb v e h)) no_increment
 
-  pub no_end : {b : Bool} → b ≡ eqb (kind (op_at ops n)) K.end_loop → not b ≡ true → has_tail cs ops p n v e ≡ false
-  no_end {b} f h = simp (← f, not-true b h, and-false)
-
-  pub one_slot : p + 10 ≤ n → v ≡ e → has_tail cs ops p n v e ≡ false
-  one_slot l h = tail_once l ∙ rw (eq-eqb v e h, and-false)
-
-  pub no_increment : {b : Bool} → b ≡ has_increment cs ops n v → not b ≡ true → has_tail cs ops p n v e ≡ false
-  no_increment {b} f h = rw (← f, not-true b h, and-false)
-
-  pub tail_decides : p + 10 ≤ n → {d : Bool} → d ≡ eqb (kind (op_at ops n)) K.end_loop → not d ≡ false → (v ≡ e → ⊥)
-      → {a c : Bool} → a ≡ has_increment cs ops n v → not a ≡ false → c ≡ neither ops v e (n - (p + 10)) (p + 5) → has_tail cs ops p n v e ≡ c
-  tail_decides l {d} f k apart {a} {c} g h m =
-      tail_once l ∙ rw (le-leb (p + 10) n l, ← f, not-false d k, ne_eqb v e apart, ← g, not-false a h, ← m)
+  -- with two, the ops before the increment decide
+  pub tail_decides : has_increment cs ops n v ≡ true → (v ≡ e → ⊥) → has_tail cs ops p n v e ≡ neither ops v e (n - (p + 10)) (p + 5)
+  tail_decides k apart = tail_once k ∙ rw (ne_eqb v e apart)

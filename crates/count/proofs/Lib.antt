@@ -1,6 +1,5 @@
 pub mod SearchLaws
 pub mod NeverLaws
 pub mod BoundLaws
-pub mod Biased
 pub mod PassLaws
 pub mod CountLaws

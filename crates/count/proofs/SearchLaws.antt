@@ -1,28 +1,24 @@
 -- How the searches that run backward go, told by the words that the code reads.
 -- Assumes nothing.
-use mathlib.Core.Path.{◌≡◌, refl, ap, ◌∙◌}
-use mathlib.Core.Bool.{Bool, true, false, cond, not, ◌&&◌, and-false}
+use mathlib.Core.Path.{◌≡◌, refl, sym, ap, ◌∙◌}
+use mathlib.Core.Bool.{Bool, true, false, cond, ◌&&◌}
 use mathlib.Core.List.{List}
 use Prim.Native.Nat.{ℕ, zero, suc, ◌-◌, ◌<◌, ◌≤◌}
 use native.Mathlib.Numerals.{sub-one}
 use native.Mathlib.Omega.{arith}
-use borrow.Author.Tests.{ne_eqb, not-true, not-false}
 use lib.Dec.{eqb}
-use lib.IntN.{pos}
+use lib.IntN.{ℤ}
 use lib.ListN.{length, get_or}
-use mir.Syntax.{w64}
-use mir.Val.{to_z}
-use mir.ValLaws.{to_z_pos}
+use Rattle.std.specs.Prelude.{Option, Some, None}
+use Rattle.rules.specs.Kinds as K
 use Rattle.rules.specs.Outcome.{Found, found, nothing}
 use Rattle.rules.specs.Ops.{kind, field_a, op_at}
 use Rattle.rules.specs.Form.{Constant, other}
 use Rattle.rules.specs.Count.{Value, unknown, is_set_local, last_set, array_length, array_source, constant_value, value_at, value_before, value_of, len_source, length_before}
+use Rattle.words.specs.Values.{constant_is}
 use Rattle.words.proofs.Cases.{decide}
 use Rattle.words.proofs.OpLaws.{read_op}
-
--- a field as a signed number
-pub field_value : (w : ℕ) → to_z w64 (field_a w) ≡ pos (field_a w)
-field_value w = to_z_pos w64 (field_a w) (omega arith)
+use Rattle.count.specs.Count.{value_is}
 
 -- what is defined at a later position by the op before it, told by the word that the code reads there
 at_later : {A : Type 0} (ops : List ℕ) (f : ℕ → A) (g : ℕ → ℕ → A) → ((i : ℕ) → f (suc i) ≡ g (op_at ops i) i) → (v : ℕ) → (v ≡ 0 → ⊥) → v ≤ length ops
@@ -30,13 +26,14 @@ at_later : {A : Type 0} (ops : List ℕ) (f : ℕ → A) (g : ℕ → ℕ → A)
 at_later ops f g is zero h b = absurd (h refl)
 at_later ops f g is (suc i) h b = is i ∙ rw (sub-one, read_op ops i (omega arith))
 
--- one position down
 module _ (ops : List ℕ) (s : ℕ) where
+  -- one position down: the op there sets the slot, or the search goes on
   pub last_step : (i : ℕ) → (i ≡ 0 → ⊥) → i ≤ length ops → {t : Bool} → is_set_local s (get_or ops (i - 1) 0) ≡ t
       → last_set ops i s ≡ cond t (found (i - 1)) (last_set ops (i - 1) s)
   unfolding last_set
   last_step i h b e = at_later ops (λ j. last_set ops j s) (λ w j. cond (is_set_local s w) (found j) (last_set ops j s)) (λ j. refl) i h b ∙ rw e
 
+  -- below 0 there is nothing to find
   pub last_none : (i : ℕ) → i ≡ 0 → last_set ops i s ≡ nothing
   unfolding last_set
   last_none i e = rw e
@@ -55,8 +52,9 @@ pub record SetAt (ops : List ℕ) (n s v : ℕ) : Type 0 where
   pub below : v < n
   pub within : n ≤ length ops
 
-pub set_at : (ops : List ℕ) (n s v : ℕ) → last_set ops n s ≡ found v → (v ≡ 0 → ⊥) → n ≤ length ops → SetAt ops n s v
-set_at ops n s v e h b = record { set = e; later = h; below = below_start ops s n v e; within = b }
+-- what a search that found the SetLocal says
+pub set_at : (ops : List ℕ) (n s v : ℕ) → found v ≡ last_set ops n s → (v ≡ 0 → ⊥) → n ≤ length ops → SetAt ops n s v
+set_at ops n s v e h b = record { set = sym e; later = h; below = below_start ops s n v (sym e); within = b }
 
 -- the array's length, told by the search
 abbrev pub at_array : List ℕ → Found → Value
@@ -64,55 +62,58 @@ at_array ops nothing = unknown
 at_array ops (found zero) = unknown
 at_array ops (found (suc i)) = array_source (op_at ops i) (λ s. array_length ops i s)
 
+-- the search decides the array's length
 by_search : (ops : List ℕ) (n s : ℕ) → array_length ops n s ≡ at_array ops (last_set ops n s)
 unfolding array_length last_set
 by_search ops zero s = refl
 by_search ops (suc zero) s = decide (is_set_local s (op_at ops 0)) (λ t. rw t) (λ t. rw t)
 by_search ops (suc (suc i)) s = decide (is_set_local s (op_at ops (suc i))) (λ t. rw t) (λ t. rw t (by_search ops (suc i) s))
 
-pub array_told : (ops : List ℕ) (n s : ℕ) {f : Found} → last_set ops n s ≡ f → array_length ops n s ≡ at_array ops f
-array_told ops n s e = by_search ops n s ∙ ap (at_array ops) e
+-- the array's length, by what the search found
+pub array_told : (ops : List ℕ) (n s : ℕ) {f : Found} → f ≡ last_set ops n s → array_length ops n s ≡ at_array ops f
+array_told ops n s e = by_search ops n s ∙ ap (at_array ops) (sym e)
 
+-- the array's length, by the op before the SetLocal
 pub array_at : {ops : List ℕ} {n s v : ℕ} → SetAt ops n s v → array_length ops n s ≡ array_source (get_or ops (v - 1) 0) (λ t. array_length ops (v - 1) t)
 array_at {ops} {n} {s} {v} h =
-    array_told ops n s h.set
+    array_told ops n s (sym h.set)
     ∙ at_later ops (λ j. at_array ops (found j)) (λ w j. array_source w (λ t. array_length ops j t)) (λ j. refl) v h.later (omega arith)
 
 -- what stands right before the op before a found SetLocal
 before_len : (ops : List ℕ) (v : ℕ) → (v ≡ 0 → ⊥) → (v ≡ 1 → ⊥) → v ≤ length ops
-    → len_source ops (v - 1) ≡ length_before (eqb (kind (get_or ops (v - 1) 0)) 39 && eqb (kind (get_or ops (v - 2) 0)) 1) ops (v - 2)
+    → len_source ops (v - 1) ≡ length_before (eqb (kind (get_or ops (v - 1) 0)) K.len && eqb (kind (get_or ops (v - 2) 0)) K.get_local) ops (v - 2)
 before_len ops zero h k b = absurd (h refl)
 before_len ops (suc zero) h k b = absurd (k refl)
 before_len ops (suc (suc i)) h k b =
     let z : suc (suc i) - 2 ≡ i = omega arith in
     rw (sub-one, z, read_op ops (suc i) (omega arith), read_op ops i (omega arith))
 
+-- what a constant gives as a value
+pub value_told : (r : Option ℤ) → value_is r ≡ constant_value (constant_is r)
+value_told (Some z) = refl
+value_told None = refl
+
 -- the value of a slot whose SetLocal is found at v
 module _ (cs : List Constant) {ops : List ℕ} {n s v : ℕ} (h : SetAt ops n s v) where
-  by_kind : value_of cs ops n s ≡ value_before (eqb (kind (get_or ops (v - 1) 0)) 0) cs ops (v - 1)
+  -- by the op before the SetLocal
+  by_kind : value_of cs ops n s ≡ value_before (eqb (kind (get_or ops (v - 1) 0)) K.const) cs ops (v - 1)
   by_kind = rw h.set
-      (at_later ops (λ j. value_at cs ops (found j)) (λ w j. value_before (eqb (kind w) 0) cs ops j) (λ j. refl) v h.later (omega arith))
+      (at_later ops (λ j. value_at cs ops (found j)) (λ w j. value_before (eqb (kind w) K.const) cs ops j) (λ j. refl) v h.later (omega arith))
 
-  pub value_constant : kind (get_or ops (v - 1) 0) ≡ 0 → value_of cs ops n s ≡ constant_value (get_or cs (field_a (get_or ops (v - 1) 0)) other)
+  -- that op is Const
+  pub value_constant : eqb (kind (get_or ops (v - 1) 0)) K.const ≡ true → value_of cs ops n s ≡ constant_value (get_or cs (field_a (get_or ops (v - 1) 0)) other)
   value_constant k = rw (by_kind, k, read_op ops (v - 1) (omega arith))
 
-  module _ (k : kind (get_or ops (v - 1) 0) ≡ 0 → ⊥) where
-    by_len : value_of cs ops n s ≡ len_source ops (v - 1)
-    by_len = rw (by_kind, ne_eqb _ _ k)
+  -- that op is Len, and there is one before it
+  module _ (k : eqb (kind (get_or ops (v - 1) 0)) K.const ≡ false) (g : v ≡ 1 → ⊥) (l : eqb (kind (get_or ops (v - 1) 0)) K.len ≡ true) where
+    -- by the op before Len
+    by_get : value_of cs ops n s ≡ length_before (eqb (kind (get_or ops (v - 2) 0)) K.get_local) ops (v - 2)
+    by_get = by_kind ∙ rw (k, before_len ops v h.later g (omega arith), l)
 
-    pub value_first : v ≡ 1 → value_of cs ops n s ≡ unknown
-    value_first f = rw (by_len, f)
+    -- which is not GetLocal
+    pub value_no_get : eqb (kind (get_or ops (v - 2) 0)) K.get_local ≡ false → value_of cs ops n s ≡ unknown
+    value_no_get m = rw (by_get, m)
 
-    module _ (g : v ≡ 1 → ⊥) where
-      by_get : value_of cs ops n s ≡ length_before (eqb (kind (get_or ops (v - 1) 0)) 39 && eqb (kind (get_or ops (v - 2) 0)) 1) ops (v - 2)
-      by_get = by_len ∙ before_len ops v h.later g (omega arith)
-
-      pub value_no_len : not (eqb (kind (get_or ops (v - 1) 0)) 39) ≡ true → value_of cs ops n s ≡ unknown
-      value_no_len l = rw (by_get, not-true (eqb (kind (get_or ops (v - 1) 0)) 39) l)
-
-      pub value_no_get : (kind (get_or ops (v - 2) 0) ≡ 1 → ⊥) → value_of cs ops n s ≡ unknown
-      value_no_get l = rw (by_get, ne_eqb _ _ l, and-false)
-
-      pub value_length : not (eqb (kind (get_or ops (v - 1) 0)) 39) ≡ false → kind (get_or ops (v - 2) 0) ≡ 1
-          → value_of cs ops n s ≡ array_length ops (v - 2) (field_a (get_or ops (v - 2) 0))
-      value_length l m = rw (by_get, not-false (eqb (kind (get_or ops (v - 1) 0)) 39) l, m, read_op ops (v - 2) (omega arith))
+    -- or is GetLocal
+    pub value_length : eqb (kind (get_or ops (v - 2) 0)) K.get_local ≡ true → value_of cs ops n s ≡ array_length ops (v - 2) (field_a (get_or ops (v - 2) 0))
+    value_length m = rw (by_get, m, read_op ops (v - 2) (omega arith))

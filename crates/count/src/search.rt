@@ -1,43 +1,31 @@
 // Searches that run backward over the ops of a chunk.
-ghost use Rattle.std.specs.Prelude.{◌≡◌, ◌&&◌, ◌+◌, ◌≤◌, eqb, length, get_or};
-ghost use Rattle.rules.specs.Form.{other};
+ghost use Rattle.std.specs.Prelude.{◌≡◌, ◌&&◌, ◌+◌, ◌≤◌, eqb, length};
 ghost use Rattle.rules.specs.Ops.{kind, field_a, op_at};
 ghost use Rattle.rules.specs.Reading.{constants_of};
-ghost use Rattle.rules.specs.Count.{never_sets, last_set, array_length, value_of, constant_value};
+ghost use Rattle.rules.specs.Count.{never_sets, last_set, array_length, value_of};
+ghost use Rattle.words.specs.Kinds.{kind_number};
 ghost use Rattle.words.specs.Found.{found_of};
 ghost use Rattle.count.specs.Count.{value_is};
 
-use words::found::Found;
+use words::fields;
+use words::fields::is;
+use words::kinds::Kind;
 use words::limits::NO_OP;
-use words::values::{ConstValue, constant_at};
-use words::{fields, kinds};
+use words::values::constant_at;
 
-// A value, if it is known.
-#[derive(Drop)]
-pub enum Value {
-    Is(i64),
-    Unknown,
-}
-
-// The op at a position; past the end a word that is no op.
+// The op at a position; past the end a word that is no op. It is one call of the library, as `number_at` of `words` is with another default, so one
+// function for both would be no plainer.
 pub fn op_at(ops: &[u32], i: usize) -> u32
     ensures { result ≡ op_at ops.now i }
 {
-    if i < ops.len() { ops[i] } else { NO_OP }
+    ops.get(i).copied().unwrap_or(NO_OP)
 }
 
-// The op at a position is of kind k; past the end there is none.
-pub fn is_kind(ops: &[u32], i: usize, k: u32) -> bool
-    ensures { result ≡ eqb (kind (op_at ops.now i)) k }
+// A word of kind k whose field a is the slot.
+pub(crate) fn has_slot(w: u32, k: Kind, slot: u32) -> bool
+    ensures { result ≡ (eqb (kind w) (kind_number k) && eqb (field_a w) slot) }
 {
-    op_at(ops, i) / fields::KIND_UNIT == k
-}
-
-// A word of kind k whose field a is `a`.
-pub fn is_of(w: u32, k: u32, a: u32) -> bool
-    ensures { result ≡ (eqb (kind w) k && eqb (field_a w) a) }
-{
-    (w / fields::KIND_UNIT == k) & (w % fields::B_UNIT == a)
+    is(w, k) & (w % fields::B_UNIT == slot)
 }
 
 // None of the n ops from i on sets v or e. The pass is not cut short, so that the machine can take several ops at a time.
@@ -45,13 +33,9 @@ pub fn never_sets(ops: &[u32], v: u32, e: u32, n: usize, i: usize) -> bool
     requires { i + n ≤ length ops.now }
     ensures { result ≡ (never_sets ops.now v n i && never_sets ops.now e n i) }
 {
-    let end = i + n;
     let mut none = true;
-    let mut at = i;
-    while at < end {
-        let w = ops[at];
-        none = none & !(is_of(w, kinds::SET_LOCAL, v) | is_of(w, kinds::SET_LOCAL, e));
-        at += 1;
+    for &w in &ops[i..i + n] {
+        none &= !(has_slot(w, Kind::SetLocal, v) | has_slot(w, Kind::SetLocal, e));
     }
     none
 }
@@ -65,94 +49,90 @@ fn past_pieces(ops: &[u32], before: usize, slot: u32) -> usize
     ensures { (result ≤ before) × (last_set ops.now before slot ≡ last_set ops.now result slot) }
 {
     let mut i = before;
-    while PIECE <= i {
-        let from = i - PIECE;
-        if !never_sets(ops, slot, slot, PIECE, from) {
+    // The position goes along with the pieces: it is what is answered.
+    for piece in ops[..before].rchunks_exact(PIECE) {
+        if !never_sets(piece, slot, slot, PIECE, 0) {
             return i;
         }
-        i = from;
+        i -= PIECE;
     }
     i
 }
 
 // The last position below `before` whose op sets the slot. Most are near; with `far`, a search that has passed a piece op by op goes on by pieces.
-pub fn last_set(ops: &[u32], before: usize, slot: u32, far: bool) -> Found
+pub fn last_set(ops: &[u32], before: usize, slot: u32, far: bool) -> Option<usize>
     requires { before ≤ length ops.now }
     ensures { found_of result ≡ last_set ops.now before slot }
 {
     let mut i = before;
+    // Document 01 names this form: a loop over falling positions that yields by `break`.
     loop {
         if far & (before - i == PIECE) {
             i = past_pieces(ops, i, slot);
         }
         if i == 0 {
-            break Found::Nothing;
+            break None;
         }
         i -= 1;
         let w = ops[i];
-        if is_of(w, kinds::SET_LOCAL, slot) {
-            break Found::At(i);
+        if has_slot(w, Kind::SetLocal, slot) {
+            break Some(i);
         }
     }
 }
 
 // The length of the array in a slot, whose SetLocal is searched below `before`: a literal right before that SetLocal, or a copy of
 // another slot, which is followed from there. The searches go op by op: what they would need for pieces would be on the stack for every copy.
-pub fn trace_literal_array_length(ops: &[u32], before: usize, slot: u32) -> Value
+pub fn trace_literal_array_length(ops: &[u32], before: usize, slot: u32) -> Option<i64>
     requires { before ≤ length ops.now }
     ensures { value_is result ≡ array_length ops.now before slot }
 {
+    // Document 01 names this form in each search: what was found or not is in a local, taken apart by `let .. else`. So the search below begins alike.
     let found = last_set(ops, before, slot, false);
-    let Found::At(at) = found else {
-        return Value::Unknown;
+    let Some(at) = found else {
+        return None;
     };
     if at == 0 {
-        return Value::Unknown;
+        return None;
     }
     let w = ops[at - 1];
-    let kind = w / fields::KIND_UNIT;
-    if kind == kinds::NEW_COMPOSITE && w / fields::B_UNIT % fields::B_VALUES == 1 {
-        return Value::Is((w % fields::B_UNIT) as i64);
+    if is(w, Kind::NewComposite) && w / fields::B_UNIT % fields::B_VALUES == 1 {
+        return Some((w % fields::B_UNIT) as i64);
     }
-    if kind == kinds::GET_LOCAL {
+    if is(w, Kind::GetLocal) {
         return trace_literal_array_length(ops, at - 1, w % fields::B_UNIT);
     }
-    Value::Unknown
+    None
 }
 
 // The value of a slot below `before`: right before its SetLocal stands Const of an integer, or GetLocal of an array and then Len.
-pub fn trace_const_set_local(constants: &[u32], ops: &[u32], before: usize, slot: u32) -> Value
+pub fn trace_const_set_local(
+    constants: &[u32],
+    ops: &[u32],
+    before: usize,
+    slot: u32,
+) -> Option<i64>
     requires { before ≤ length ops.now }
     ensures { value_is result ≡ value_of (constants_of constants.now) ops.now before slot }
 {
+    // Document 01 names this form in each search: what was found or not is in a local, taken apart by `let .. else`. So the search above begins alike.
     let found = last_set(ops, before, slot, true);
-    let Found::At(at) = found else {
-        return Value::Unknown;
+    let Some(at) = found else {
+        return None;
     };
     if at == 0 {
-        return Value::Unknown;
+        return None;
     }
     let w = ops[at - 1];
-    if w / fields::KIND_UNIT == kinds::CONST {
-        return constant_value(constants, (w % fields::B_UNIT) as usize);
+    if is(w, Kind::Const) {
+        return constant_at(constants, (w % fields::B_UNIT) as usize);
     }
-    if at == 1 || w / fields::KIND_UNIT != kinds::LEN {
-        return Value::Unknown;
+    if at == 1 || !is(w, Kind::Len) {
+        return None;
     }
     let array = ops[at - 2];
-    if array / fields::KIND_UNIT != kinds::GET_LOCAL {
-        return Value::Unknown;
+    if !is(array, Kind::GetLocal) {
+        return None;
     }
     trace_literal_array_length(ops, at - 2, array % fields::B_UNIT)
-}
-
-// The constant of an index, if it is an integer.
-pub fn constant_value(constants: &[u32], i: usize) -> Value
-    ensures { value_is result ≡ constant_value (get_or (constants_of constants.now) i other) }
-{
-    let value = constant_at(constants, i);
-    match value {
-        ConstValue::Int(n) => Value::Is(n),
-        ConstValue::Other => Value::Unknown,
-    }
 }

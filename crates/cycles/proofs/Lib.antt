@@ -1,4 +1,4 @@
-pub mod SumLaws
 pub mod CycleLaws
+pub mod SumLaws
 pub mod StepLaws
 pub mod EntryLaws

@@ -1,34 +1,26 @@
 -- What the cycle walk's answers stand for in document 01.
-use Rattle.std.specs.Prelude.{Bool, true, false, List, [], ℕ, min}
+use Rattle.std.specs.Prelude.{List, [], ℕ, Option, Some, None, min}
 use Rattle.rules.specs.Outcome.{Result, ok, no}
 use Rattle.rules.specs.Ops.{op_at}
 use Rattle.rules.specs.Form.{Chunk}
-use Rattle.rules.specs.Reading.{constants_of, extras_of}
+use Rattle.rules.specs.Reading.{extras_of}
 use Rattle.rules.specs.Count.{count_of}
 use Rattle.rules.specs.Cycles as R
 use Rattle.rows.specs.Tree.{tree_of}
-use Rattle.cycles.specs.declared.sums.Breaks.{Breaks}
-use Rattle.cycles.specs.declared.charge.Charge.{Charge}
-use Rattle.cycles.specs.declared.charge.Charge.TheVariants.{Is, OpenText}
 use Rattle.cycles.specs.declared.region.Cost.{Cost}
-use Rattle.cycles.specs.declared.region.Walk as W
 
 -- where the walk of the code stops, 2^64 - 1: above 4,294,967,295, so that the answer's figure and mark are told by it (EntryLaws)
 abbrev pub wide_cap : ℕ
 wide_cap = 18446744073709551615
 
--- a flag and the greatest
-abbrev pub breaks_from : Bool → ℕ → R.Breaks
-breaks_from true c = R.costliest c
-breaks_from false c = R.unbroken
+-- the breaks met so far: none, or the costliest
+abbrev pub breaks_of : Option ℕ → R.Breaks
+breaks_of (Some c) = R.costliest c
+breaks_of None = R.unbroken
 
-abbrev pub breaks_of : Breaks → R.Breaks
-breaks_of b = breaks_from b.met b.costliest
-
--- a chunk whose walk needs these parts alone
-abbrev pub chunk_of : List ℕ → List ℕ → List ℕ → Chunk
-chunk_of constants ops extras =
-    record { locals = 0; type = 0; constants = constants_of constants; ops = ops; extras = extras_of extras }
+-- a chunk whose charges need these parts alone
+abbrev pub charged : List ℕ → List ℕ → Chunk
+charged ops extras = record { locals = 0; type = 0; constants = []; ops = ops; extras = extras_of extras }
 
 -- the capped charge of an op, without what a callee adds
 abbrev pub cap_charge : Result ℕ → Result ℕ
@@ -36,18 +28,10 @@ cap_charge (ok c) = ok (min wide_cap c)
 cap_charge (no n p) = no n p
 
 abbrev pub charge_at : List ℕ → List ℕ → ℕ → Result ℕ
-charge_at ops extras i = cap_charge (R.charge_of (chunk_of [] ops extras) [] i)
-
-abbrev pub charge_result : ℕ → Charge → Result ℕ
-charge_result i (Is c) = ok c
-charge_result i OpenText = no 8 i
+charge_at ops extras i = cap_charge (R.charge_of (charged ops extras) [] i)
 
 abbrev pub cost_of : Cost → R.Cost
 cost_of c = R.costs c.cycles c.ends (breaks_of c.breaks)
-
-abbrev pub walk_result : W.Walk → Result R.Cost
-walk_result (W.TheVariants.Done c) = ok (cost_of c)
-walk_result (W.TheVariants.Refused n p) = no n p
 
 -- the walk of the positions from i up to `to` of a chunk over its callees' whole figures, with so many levels left, from a cost and breaks
 abbrev pub region_cost : Chunk → List ℕ → ℕ → ℕ → ℕ → ℕ → R.Breaks → Result R.Cost

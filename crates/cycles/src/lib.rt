@@ -5,4 +5,3 @@
 pub mod charge;
 pub mod entry;
 pub mod region;
-pub mod sums;

@@ -1,348 +1,245 @@
 // The cycle walk of a row: op after op, with the bodies of its blocks one level deeper.
 ghost use Rattle.std.specs.Prelude.{◌≡◌, ℕ, ◌≤◌, ◌<◌, length};
-ghost use Rattle.rules.specs.Limits.{most_words};
+ghost use Rattle.words.specs.Refusals.{result_of};
+ghost use Rattle.words.specs.Chunks.{chunk_of};
 ghost use Rattle.rows.specs.Opens.{RowFits, StepFits, IfFits, ElseFits, LoopFits};
-ghost use Rattle.cycles.specs.Answers.{breaks_of, walk_result, part_cost, region_cost, chunk_of};
+ghost use Rattle.cycles.specs.Answers.{breaks_of, cost_of, part_cost, region_cost};
 ghost use Rattle.cycles.specs.Steps.{StepMeans, IfMeans, ElseMeans, LoopMeans, joined, all_passes_at, one_pass_at};
 
-use crate::charge::{Charge, op_wcet_cycles};
-use crate::sums::{Breaks, break_cost, cap_add, cap_mul, note_break};
-use count::bound::{Bound, extract_loop_iteration_bound};
+use crate::charge::op_wcet_cycles;
+use count::bound::extract_loop_iteration_bound;
 use rows::block::{Block, block_at};
-use words::refusals;
+use words::chunk::Chunk;
+use words::refusals::{Fault, Refusal};
 use words::values::number_at;
 
-// What the walk of a row gives: its cycles up to the wide cap, whether it ends, and the breaks out of the loop around it.
-#[derive(Drop)]
+// What the walk of a row gives: its cycles up to what 64 bits hold, whether it ends, and the costliest of the breaks out of the loop around it, if there is one.
+// Nothing uncapped can be held; but a walk that stops at any cap above 4,294,967,295 tells the figure up to that number and whether the uncapped one is greater.
+#[derive(Clone, Copy, Debug, PartialEq, Eq)]
 pub struct Cost {
     pub cycles: u64,
     pub ends: bool,
-    pub breaks: Breaks,
+    pub breaks: Option<u64>,
 }
 
-// A row's cost, or refusal 7, 8 or 9 with its place.
-#[derive(Drop)]
-pub enum Walk {
-    Done(Cost),
-    Refused { number: u32, place: usize },
-}
-
-// How a row goes on behind an op or a block: with a cost and breaks at a position, or it ends with them, or a refusal.
-#[derive(Drop)]
+// How a row goes on behind an op or a block: with a cost and breaks at a position, or it ends with them. The two go side by side and not in a struct: at most
+// places only one of them changes.
+#[derive(Clone, Copy, Debug, PartialEq, Eq)]
 pub enum Step {
-    Goes(u64, Breaks, usize),
-    Ends(u64, Breaks),
-    Refused { number: u32, place: usize },
+    Goes(u64, Option<u64>, usize),
+    Ends(u64, Option<u64>),
 }
 
-// The row from `from` up to `to`, with `left` levels of nesting left inside it and the breaks met so far. A Call is charged the whole figure that the list
-// has for its callee.
-#[cycle(wcet_else_wcet_if_wcet_loop_wcet_part_wcet_region_at_wcet_step)]
-pub fn wcet_region_at(
-    constants: &[u32],
-    ops: &[u32],
-    extras: &[u32],
-    wholes: &[u32],
-    from: usize,
-    to: usize,
-    left: u16,
-    breaks: Breaks,
-) -> Walk
-    requires { RowFits ops.now from to }
-    ensures { walk_result result ≡ region_cost (chunk_of constants.now ops.now extras.now) wholes.now from to left 0 (breaks_of breaks) }
-{
-    let mut i = from;
-    let mut cycles: u64 = 0;
-    // The breaks by their fields: as one value their padding would be copied at every op.
-    let mut met = breaks.met;
-    let mut costliest = breaks.costliest;
-    while i < to {
-        let so_far = Breaks { met, costliest };
-        let step = wcet_step(constants, ops, extras, wholes, i, left, cycles, so_far);
-        match step {
-            Step::Goes(cost, noted, next) => {
-                i = next;
-                cycles = cost;
-                met = noted.met;
-                costliest = noted.costliest;
+// The walk of a chunk over its callees' whole figures: a Call is charged the one that the list has for its callee.
+#[derive(Clone, Copy)]
+pub struct CycleWalk<'a> {
+    pub chunk: Chunk<'a>,
+    pub wholes: &'a [u32],
+}
+
+// That the positions are a row stands in each contract: they are others at each call, so a type for them would be made only to be taken apart.
+impl CycleWalk<'_> {
+    // The row from `from` up to `to`, with `left` levels of nesting left inside it and the breaks met so far.
+    #[cycle(wcet)]
+    pub fn wcet_region_at(
+        &self,
+        from: usize,
+        to: usize,
+        left: u16,
+        breaks: Option<u64>,
+    ) -> Result<Cost, Fault>
+        requires { RowFits self.now.chunk.ops.now from to }
+        ensures { result_of cost_of result ≡ region_cost (chunk_of self.now.chunk) self.now.wholes.now from to left 0 (breaks_of breaks) }
+    {
+        let mut i = from;
+        let mut cycles: u64 = 0;
+        let mut breaks = breaks;
+        // A step says where the row goes on, behind a whole block at once, so no `for` counts the position.
+        while i < to {
+            let step = self.wcet_step(i, left, cycles, breaks)?;
+            match step {
+                Step::Goes(cost, noted, next) => {
+                    i = next;
+                    cycles = cost;
+                    breaks = noted;
+                }
+                Step::Ends(cost, noted) => {
+                    return Ok(Cost {
+                        cycles: cost,
+                        ends: true,
+                        breaks: noted,
+                    });
+                }
             }
-            Step::Ends(cost, noted) => {
-                return Walk::Done(Cost {
-                    cycles: cost,
-                    ends: true,
-                    breaks: noted,
-                });
+        }
+        Ok(Cost {
+            cycles,
+            ends: false,
+            breaks,
+        })
+    }
+
+    // The op at i, or the block that it opens: a `match`, since each case has positions of its own.
+    #[cycle(wcet)]
+    fn wcet_step(
+        &self,
+        i: usize,
+        left: u16,
+        cycles: u64,
+        breaks: Option<u64>,
+    ) -> Result<Step, Fault>
+        requires { (to : ℕ) × StepFits self.now.chunk.ops.now i to }
+        ensures { (to : ℕ) → StepFits self.now.chunk.ops.now i to → StepMeans (chunk_of self.now.chunk) self.now.wholes.now i to left cycles (breaks_of breaks) result }
+    {
+        let own = op_wcet_cycles(self.chunk.ops, self.chunk.extras, i)?;
+        let cost = cycles.saturating_add(own);
+        let block = block_at(self.chunk.ops, i);
+        let next = i + 1;
+        match block {
+            Block::Plain => Ok(Step::Goes(cost, breaks, next)),
+            Block::Ends => Ok(Step::Ends(cost, breaks)),
+            Block::Break => Ok(Step::Ends(cost, breaks.max(Some(cost)))),
+            Block::BreakIf => Ok(Step::Goes(cost, breaks.max(Some(cost)), next)),
+            Block::If(t) => self.wcet_if(i, t, left, cost, breaks),
+            Block::IfElse(e, f) => self.wcet_else(i, e, f, left, cost, breaks),
+            Block::Loop(e) => self.wcet_loop(i, e, left, cost, breaks),
+            Block::Call(k) => {
+                let whole = number_at(self.wholes, k) as u64;
+                Ok(Step::Goes(cost.saturating_add(whole), breaks, next))
             }
-            Step::Refused { number, place } => {
-                return Walk::Refused { number, place };
-            }
         }
     }
-    let last = Breaks { met, costliest };
-    Walk::Done(Cost {
-        cycles,
-        ends: false,
-        breaks: last,
-    })
-}
 
-// The op at i, or the block that it opens.
-#[cycle(wcet_else_wcet_if_wcet_loop_wcet_part_wcet_region_at_wcet_step)]
-fn wcet_step(
-    constants: &[u32],
-    ops: &[u32],
-    extras: &[u32],
-    wholes: &[u32],
-    i: usize,
-    left: u16,
-    cycles: u64,
-    breaks: Breaks,
-) -> Step
-    requires { (to : ℕ) × StepFits ops.now i to }
-    ensures { (to : ℕ) → StepFits ops.now i to → StepMeans constants.now ops.now extras.now wholes.now i to left cycles breaks result }
-{
-    let charge = op_wcet_cycles(ops, extras, i);
-    let Charge::Is(own) = charge else {
-        return Step::Refused {
-            number: refusals::OPEN_TEXT,
-            place: i,
-        };
-    };
-    let cost = cap_add(cycles, own);
-    let block = block_at(ops, i);
-    let next = i + 1;
-    match block {
-        Block::Plain => Step::Goes(cost, breaks, next),
-        Block::Ends => Step::Ends(cost, breaks),
-        Block::Break => Step::Ends(cost, note_break(breaks, cost)),
-        Block::BreakIf => Step::Goes(cost, note_break(breaks, cost), next),
-        Block::If(t) => wcet_if(constants, ops, extras, wholes, i, t, left, cost, breaks),
-        Block::IfElse(e, f) => wcet_else(
-            constants, ops, extras, wholes, i, e, f, left, cost, breaks,
-        ),
-        Block::Loop(e) => wcet_loop(constants, ops, extras, wholes, i, e, left, cost, breaks),
-        Block::Call(k) => Step::Goes(cap_add(cost, number_at(wholes, k) as u64), breaks, next),
-    }
-}
-
-// A body, one level deeper.
-#[cycle(wcet_else_wcet_if_wcet_loop_wcet_part_wcet_region_at_wcet_step)]
-fn wcet_part(
-    constants: &[u32],
-    ops: &[u32],
-    extras: &[u32],
-    wholes: &[u32],
-    from: usize,
-    to: usize,
-    left: u16,
-    breaks: Breaks,
-) -> Walk
-    requires { RowFits ops.now from to }
-    ensures { walk_result result ≡ part_cost (chunk_of constants.now ops.now extras.now) wholes.now from to left (breaks_of breaks) }
-{
-    if left == 0 {
-        return Walk::Refused {
-            number: refusals::TOO_DEEP,
-            place: 0,
-        };
-    }
-    wcet_region_at(constants, ops, extras, wholes, from, to, left - 1, breaks)
-}
-
-// Behind an If at i, charged already, with EndIf at t: the arm, and EndIf.
-#[cycle(wcet_else_wcet_if_wcet_loop_wcet_part_wcet_region_at_wcet_step)]
-fn wcet_if(
-    constants: &[u32],
-    ops: &[u32],
-    extras: &[u32],
-    wholes: &[u32],
-    i: usize,
-    t: usize,
-    left: u16,
-    cost: u64,
-    breaks: Breaks,
-) -> Step
-    requires { (to : ℕ) × IfFits ops.now i t to }
-    ensures { (to : ℕ) → IfFits ops.now i t to → IfMeans constants.now ops.now extras.now wholes.now i t to left cost breaks result }
-{
-    let part = wcet_part(constants, ops, extras, wholes, i + 1, t, left, breaks);
-    let arm = match part {
-        Walk::Done(c) => c,
-        Walk::Refused { number, place } => {
-            return Step::Refused { number, place };
+    // A body, one level deeper.
+    #[cycle(wcet)]
+    fn wcet_part(
+        &self,
+        from: usize,
+        to: usize,
+        left: u16,
+        breaks: Option<u64>,
+    ) -> Result<Cost, Fault>
+        requires { RowFits self.now.chunk.ops.now from to }
+        ensures { result_of cost_of result ≡ part_cost (chunk_of self.now.chunk) self.now.wholes.now from to left (breaks_of breaks) }
+    {
+        if left == 0 {
+            return Err(Refusal::TooDeep.at(0));
         }
-    };
-    let charge = op_wcet_cycles(ops, extras, t);
-    let Charge::Is(close) = charge else {
-        return Step::Refused {
-            number: refusals::OPEN_TEXT,
-            place: t,
-        };
-    };
-    let noted = arm.breaks;
-    let next = t + 1;
-    Step::Goes(cap_add(cap_add(cost, arm.cycles), close), noted, next)
-}
-
-// Behind an If at i, charged already, with Else at e and EndIf at f: both arms, Else, and EndIf.
-#[cycle(wcet_else_wcet_if_wcet_loop_wcet_part_wcet_region_at_wcet_step)]
-fn wcet_else(
-    constants: &[u32],
-    ops: &[u32],
-    extras: &[u32],
-    wholes: &[u32],
-    i: usize,
-    e: usize,
-    f: usize,
-    left: u16,
-    cost: u64,
-    breaks: Breaks,
-) -> Step
-    requires { (to : ℕ) × ElseFits ops.now i e f to }
-    ensures { (to : ℕ) → ElseFits ops.now i e f to → ElseMeans constants.now ops.now extras.now wholes.now i e f to left cost breaks result }
-{
-    let first = wcet_part(constants, ops, extras, wholes, i + 1, e, left, breaks);
-    let arm = match first {
-        Walk::Done(c) => c,
-        Walk::Refused { number, place } => {
-            return Step::Refused { number, place };
-        }
-    };
-    let noted = arm.breaks;
-    let second = wcet_part(constants, ops, extras, wholes, e + 1, f, left, noted);
-    let other = match second {
-        Walk::Done(c) => c,
-        Walk::Refused { number, place } => {
-            return Step::Refused { number, place };
-        }
-    };
-    join_arms(ops, extras, e, f, cost, arm, other)
-}
-
-// Both arms walked: the greater of then arm and Else, and the else arm; then EndIf. The row ends if both arms do.
-fn join_arms(
-    ops: &[u32],
-    extras: &[u32],
-    e: usize,
-    f: usize,
-    cost: u64,
-    arm: Cost,
-    other: Cost,
-) -> Step
-    requires { (e < length ops.now) × (f < length ops.now) × (f < 65536) }
-    ensures { result ≡ joined ops.now extras.now e f cost arm other }
-{
-    let charge = op_wcet_cycles(ops, extras, e);
-    let Charge::Is(jump) = charge else {
-        return Step::Refused {
-            number: refusals::OPEN_TEXT,
-            place: e,
-        };
-    };
-    let last = op_wcet_cycles(ops, extras, f);
-    let Charge::Is(close) = last else {
-        return Step::Refused {
-            number: refusals::OPEN_TEXT,
-            place: f,
-        };
-    };
-    let then = cap_add(arm.cycles, jump);
-    let greater = if then < other.cycles {
-        other.cycles
-    } else {
-        then
-    };
-    let total = cap_add(cap_add(cost, greater), close);
-    let noted = other.breaks;
-    if arm.ends && other.ends {
-        return Step::Ends(total, noted);
+        self.wcet_region_at(from, to, left - 1, breaks)
     }
-    Step::Goes(total, noted, f + 1)
-}
 
-// Behind a Loop at i, charged already, with EndLoop at e: the body and its passes.
-#[cycle(wcet_else_wcet_if_wcet_loop_wcet_part_wcet_region_at_wcet_step)]
-fn wcet_loop(
-    constants: &[u32],
-    ops: &[u32],
-    extras: &[u32],
-    wholes: &[u32],
-    i: usize,
-    e: usize,
-    left: u16,
-    cost: u64,
-    breaks: Breaks,
-) -> Step
-    requires { (to : ℕ) × LoopFits ops.now i e to }
-    ensures { (to : ℕ) → LoopFits ops.now i e to → LoopMeans constants.now ops.now extras.now wholes.now i e to left cost breaks result }
-{
-    let none = Breaks {
-        met: false,
-        costliest: 0,
-    };
-    let part = wcet_part(constants, ops, extras, wholes, i + 1, e, left, none);
-    let body = match part {
-        Walk::Done(c) => c,
-        Walk::Refused { number, place } => {
-            return Step::Refused { number, place };
-        }
-    };
-    if body.ends {
-        return one_pass(e, cost, body, breaks);
+    // Behind an If at i, charged already, with EndIf at t: the arm, and EndIf.
+    #[cycle(wcet)]
+    fn wcet_if(
+        &self,
+        i: usize,
+        t: usize,
+        left: u16,
+        cost: u64,
+        breaks: Option<u64>,
+    ) -> Result<Step, Fault>
+        requires { (to : ℕ) × IfFits self.now.chunk.ops.now i t to }
+        ensures { (to : ℕ) → IfFits self.now.chunk.ops.now i t to → IfMeans (chunk_of self.now.chunk) self.now.wholes.now i t to left cost (breaks_of breaks) result }
+    {
+        let arm = self.wcet_part(i + 1, t, left, breaks)?;
+        let close = op_wcet_cycles(self.chunk.ops, self.chunk.extras, t)?;
+        let total = cost.saturating_add(arm.cycles).saturating_add(close);
+        Ok(Step::Goes(total, arm.breaks, t + 1))
     }
-    all_passes(constants, ops, extras, i, e, cost, body, breaks)
-}
 
-// A body that reaches EndLoop at e, of a Loop at i: its count, EndLoop, and the passes with the costliest break.
-fn all_passes(
-    constants: &[u32],
-    ops: &[u32],
-    extras: &[u32],
-    i: usize,
-    e: usize,
-    cost: u64,
-    body: Cost,
-    breaks: Breaks,
-) -> Step
-    requires { (e < length ops.now) × (length ops.now ≤ most_words) }
-    ensures { result ≡ all_passes_at constants.now ops.now extras.now i e cost body breaks }
-{
-    let bound = extract_loop_iteration_bound(constants, ops, i);
-    let Bound::Count(n) = bound else {
-        return Step::Refused {
-            number: refusals::NO_COUNT,
-            place: i,
+    // Behind an If at i, charged already, with Else at e and EndIf at f: both arms, Else, and EndIf.
+    #[cycle(wcet)]
+    fn wcet_else(
+        &self,
+        i: usize,
+        e: usize,
+        f: usize,
+        left: u16,
+        cost: u64,
+        breaks: Option<u64>,
+    ) -> Result<Step, Fault>
+        requires { (to : ℕ) × ElseFits self.now.chunk.ops.now i e f to }
+        ensures { (to : ℕ) → ElseFits self.now.chunk.ops.now i e f to → ElseMeans (chunk_of self.now.chunk) self.now.wholes.now i e f to left cost (breaks_of breaks) result }
+    {
+        let arm = self.wcet_part(i + 1, e, left, breaks)?;
+        let other = self.wcet_part(e + 1, f, left, arm.breaks)?;
+        self.join_arms(e, f, cost, arm, other)
+    }
+
+    // Both arms walked: the greater of then arm and Else, and the else arm; then EndIf. The row ends if both arms do.
+    fn join_arms(
+        &self,
+        e: usize,
+        f: usize,
+        cost: u64,
+        arm: Cost,
+        other: Cost,
+    ) -> Result<Step, Fault>
+        requires { (e < length self.now.chunk.ops.now) × (f < length self.now.chunk.ops.now) }
+        ensures { result_of (λ s. s) result ≡ joined self.now.chunk.ops.now self.now.chunk.extras.now e f cost arm other }
+    {
+        let jump = op_wcet_cycles(self.chunk.ops, self.chunk.extras, e)?;
+        let close = op_wcet_cycles(self.chunk.ops, self.chunk.extras, f)?;
+        let greater = arm.cycles.saturating_add(jump).max(other.cycles);
+        let total = cost.saturating_add(greater).saturating_add(close);
+        if arm.ends && other.ends {
+            return Ok(Step::Ends(total, other.breaks));
+        }
+        Ok(Step::Goes(total, other.breaks, f + 1))
+    }
+
+    // Behind a Loop at i, charged already, with EndLoop at e: the body and its passes.
+    #[cycle(wcet)]
+    fn wcet_loop(
+        &self,
+        i: usize,
+        e: usize,
+        left: u16,
+        cost: u64,
+        breaks: Option<u64>,
+    ) -> Result<Step, Fault>
+        requires { (to : ℕ) × LoopFits self.now.chunk.ops.now i e to }
+        ensures { (to : ℕ) → LoopFits self.now.chunk.ops.now i e to → LoopMeans (chunk_of self.now.chunk) self.now.wholes.now i e to left cost (breaks_of breaks) result }
+    {
+        let body = self.wcet_part(i + 1, e, left, None)?;
+        if body.ends {
+            return Ok(one_pass(e, cost, body, breaks));
+        }
+        self.all_passes(i, e, cost, body, breaks)
+    }
+
+    // A body that reaches EndLoop at e, of a Loop at i: its count, EndLoop, and the passes with the costliest break.
+    fn all_passes(
+        &self,
+        i: usize,
+        e: usize,
+        cost: u64,
+        body: Cost,
+        breaks: Option<u64>,
+    ) -> Result<Step, Fault>
+        requires { e < length self.now.chunk.ops.now }
+        ensures { result_of (λ s. s) result ≡ all_passes_at (chunk_of self.now.chunk) self.now.chunk.extras.now i e cost body breaks }
+    {
+        let bound = extract_loop_iteration_bound(&self.chunk, i);
+        let Some(n) = bound else {
+            return Err(Refusal::NoCount.at(i));
         };
-    };
-    let charge = op_wcet_cycles(ops, extras, e);
-    let Charge::Is(close) = charge else {
-        return Step::Refused {
-            number: refusals::OPEN_TEXT,
-            place: e,
-        };
-    };
-    let inner = body.breaks;
-    let passes = cap_mul(cap_add(body.cycles, close), n);
-    Step::Goes(
-        cap_add(cost, cap_add(passes, break_cost(inner))),
-        breaks,
-        e + 1,
-    )
+        let close = op_wcet_cycles(self.chunk.ops, self.chunk.extras, e)?;
+        let passes = body.cycles.saturating_add(close).saturating_mul(n as u64);
+        let last = body.breaks.unwrap_or(0);
+        let total = cost.saturating_add(passes.saturating_add(last));
+        Ok(Step::Goes(total, breaks, e + 1))
+    }
 }
 
 // A body that never reaches EndLoop at e: charged once; without a break it ends the row.
-fn one_pass(e: usize, cost: u64, body: Cost, breaks: Breaks) -> Step
+fn one_pass(e: usize, cost: u64, body: Cost, breaks: Option<u64>) -> Step
     requires { e < 65536 }
     ensures { result ≡ one_pass_at e cost body breaks }
 {
-    let inner = body.breaks;
-    if !inner.met {
-        return Step::Ends(cap_add(cost, body.cycles), breaks);
-    }
-    let greater = if body.cycles < inner.costliest {
-        inner.costliest
-    } else {
-        body.cycles
+    let Some(costliest) = body.breaks else {
+        return Step::Ends(cost.saturating_add(body.cycles), breaks);
     };
-    Step::Goes(cap_add(cost, greater), breaks, e + 1)
+    let greater = body.cycles.max(costliest);
+    Step::Goes(cost.saturating_add(greater), breaks, e + 1)
 }

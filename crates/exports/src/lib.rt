@@ -7,11 +7,13 @@ pub mod lent;
 
 ghost use Rattle.std.specs.Prelude.{◌≡◌, ◌≤◌};
 ghost use Rattle.rules.specs.Sheet.{read_outcome, count_outcome, cycles_outcome};
+ghost use Rattle.words.specs.Refusals.{outcome_of, refusal_number};
 ghost use Rattle.exports.specs.Packed.{packed_number, flagged, packed_cycles, packed_refusal};
 
-use count::entry::{CountAnswer, loop_count};
-use cycles::entry::{CyclesAnswer, cycle_walk};
-use words::reader::{Reading, read_module};
+use count::entry::loop_count;
+use cycles::entry::cycle_walk;
+use words::reader::read_module;
+use words::refusals::Refused;
 
 // How many numbers, chunks and places a refusal is kept whole for: 2^8, 2^24 and 2^32.
 const NUMBERS: u64 = 256;
@@ -30,39 +32,39 @@ const CUT: u64 = 2 * ENDS;
 
 // A refusal as one number: eight bits of its number, 24 of its chunk and 32 of its place. That is all of each but where a chunk or a position that is
 // handed in is greater.
-fn pack_refusal(number: u32, chunk: usize, place: usize) -> u64
-    ensures { result ≡ packed_refusal number chunk place }
+fn pack_refusal(refused: Refused) -> u64
+    ensures { result ≡ packed_refusal (refusal_number refused.refusal) refused.chunk refused.place }
 {
-    number as u64 % NUMBERS * NUMBER_UNIT + chunk as u64 % CHUNKS * PLACES + place as u64 % PLACES
+    refused.refusal.number() as u64 % NUMBERS * NUMBER_UNIT
+        + refused.chunk as u64 % CHUNKS * PLACES
+        + refused.place as u64 % PLACES
+}
+
+// A number, or a refusal, as one number.
+fn pack(answer: Result<u32, Refused>) -> u64
+    ensures { result ≡ packed_number (outcome_of (λ n. n) answer) }
+{
+    match answer {
+        Ok(n) => n as u64,
+        Err(refused) => pack_refusal(refused),
+    }
 }
 
 // The reader: the chunk count.
 pub fn pm_read(words: &[u32]) -> u64
     ensures { result ≡ packed_number (read_outcome words.now) }
 {
-    let reading = read_module(words);
-    match reading {
-        Reading::Accepted(n) => n as u64,
-        Reading::Refused { number, place } => pack_refusal(number, 0, place),
-    }
+    pack(read_module(words))
 }
 
 // The count of the loop at position p of chunk c.
 pub fn pm_count(words: &[u32], c: u32, p: u32) -> u64
     ensures { result ≡ packed_number (count_outcome words.now c p) }
 {
-    let answer = loop_count(words, c as usize, p as usize);
-    match answer {
-        CountAnswer::Is(n) => n as u64,
-        CountAnswer::Refused {
-            number,
-            chunk,
-            place,
-        } => pack_refusal(number, chunk, place),
-    }
+    pack(loop_count(words, c as usize, p as usize))
 }
 
-// A flag of so much, where it is set.
+// A flag of so much, where it is set: a multiplication by `u64::from(is)` would be no plainer.
 fn flag(is: bool, value: u64) -> u64
     ensures is { result ≡ flagged is value }
     ensures most { result ≤ value }
@@ -76,13 +78,7 @@ pub fn pm_cycles(words: &[u32], c: u32) -> u64
 {
     let answer = cycle_walk(words, c as usize);
     match answer {
-        CyclesAnswer::Are { cycles, ends, cut } => {
-            cycles as u64 + flag(ends, ENDS) + flag(cut, CUT)
-        }
-        CyclesAnswer::Refused {
-            number,
-            chunk,
-            place,
-        } => pack_refusal(number, chunk, place),
+        Ok(figure) => figure.cycles as u64 + flag(figure.ends, ENDS) + flag(figure.cut, CUT),
+        Err(refused) => pack_refusal(refused),
     }
 }

@@ -1,4 +1,5 @@
-// The functions of `exports` under their C names, for programs in other languages to link: include/pinnaclemug.h has their C signatures.
+// The functions of `exports` under their C names, for programs in other languages to link: include/pinnaclemug.h has their C signatures. Each stands here once more since C needs
+// it under its own name and with its own signature.
 
 #![tactic(auto)]
 

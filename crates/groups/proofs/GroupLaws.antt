@@ -1,34 +1,39 @@
--- The group of a line, number by number. Assumes nothing.
+-- The group of a line, number by number: the fields that an iterator still yields are those behind the numbers that were read. Assumes nothing.
 use mathlib.Core.Path.{◌≡◌, refl, sym, ap, ◌∙◌}
-use mathlib.Core.Bool.{◌&&◌}
+use mathlib.Core.Bool.{true, false, ◌&&◌, true≢false, false≢true}
 use mathlib.Core.List.{List, [], ◌∷◌, ◌++◌, append-nil}
-use Prim.Native.Nat.{ℕ, suc, ◌+◌, ◌-◌, ◌<◌, ◌≤◌}
+use Prim.Native.Nat.{ℕ, suc, ◌+◌, ◌<◌, ◌≤◌}
 use native.Mathlib.Numerals.{add-one}
 use native.Mathlib.Omega.{arith}
 use borrow.Author.Tests.{le-leb, lt-leb}
+use denote.Ref.{Bor}
 use lib.Dec.{leb}
-use lib.ListN.{length, get_or, set, take, drop, length-append, length-set}
+use lib.ListN.{length, get_or, set, take, length-append, length-set}
 use lib.Seq.{take-suc-set, take_all, length-take-le, append_snoc}
+use Rattle.std.specs.Prelude.{Option, Some, None}
+use Rattle.std.specs.Option.{is_some}
+use Rattle.std.proofs.lemmas.Iterator.{YieldsList}
 use Rattle.rules.specs.Outcome.{Found, found, nothing}
 use Rattle.rules.specs.Ops.{Group, group}
-use Rattle.rules.specs.Text.{space}
 use Rattle.rules.specs.Table.{FieldNumbers, all_numbers, broken, fields_of, number_of, one_more, numbers_of, no_group, is_group, group_if, five, group_from, group_of}
-use Rattle.groups.specs.Line.{before, fields_from}
-use Rattle.groups.proofs.SplitLaws.{no_field, next_field}
 
 -- numbers in front of those of other fields
 abbrev behind : List ℕ → FieldNumbers → FieldNumbers
 behind ns (all_numbers ms) = all_numbers (ns ++ ms)
 behind ns broken = broken
 
+-- none in front
 behind_none : (x : FieldNumbers) → behind [] x ≡ x
 behind_none (all_numbers ms) = refl
 behind_none broken = refl
 
-behind_more : (ns : List ℕ) (i n : ℕ) (x : FieldNumbers) → i < length ns → behind (take i ns) (one_more (found n) x) ≡ behind (take (suc i) (set ns i n)) x
+-- one more, set at its place
+behind_more : (ns : List ℕ) (i n : ℕ) (x : FieldNumbers) → i < length ns
+    → behind (take i ns) (one_more (found n) x) ≡ behind (take (suc i) (set ns i n)) x
 behind_more ns i n (all_numbers ms) h = rw (take-suc-set ns i n h, append_snoc (take i ns) n ms)
 behind_more ns i n broken h = refl
 
+-- any other count than five makes no group
 not_five : (ns : List ℕ) → (length ns ≡ 5 → ⊥) → five ns ≡ no_group
 not_five [] h = refl
 not_five (k ∷ []) h = refl
@@ -48,6 +53,7 @@ sixth ns nothing x h = refl
 abbrev group_at : List ℕ → Group
 group_at ns = group (get_or ns 0 0) (get_or ns 1 0) (get_or ns 2 0) (get_or ns 3 0) (get_or ns 4 0)
 
+-- five numbers are a group by their first two
 just : (ns : List ℕ) → length ns ≡ 5 → five ns ≡ group_if (leb (get_or ns 0 0) (get_or ns 1 0) && leb (get_or ns 1 0) 65) (group_at ns)
 just [] h = absurd (omega arith)
 just (k ∷ []) h = absurd (omega arith)
@@ -57,68 +63,91 @@ just (k ∷ l ∷ c ∷ g ∷ []) h = absurd (omega arith)
 just (k ∷ l ∷ c ∷ g ∷ s ∷ []) h = refl
 just (k ∷ l ∷ c ∷ g ∷ s ∷ x ∷ xs) h = absurd (omega arith)
 
--- after i fields: their numbers are the first i, and the fields from place `at` on are left
-pub record Read (line : List ℕ) (numbers : List ℕ) (at i : ℕ) : Type 0 where
+-- after i fields: their numbers are the first i, and the iterator yields the fields that are left
+pub record Read {S : Type 0} (steps : S → Option (Bor (List ℕ)) → S → Type 0) (line numbers : List ℕ) (i : ℕ) (s : S) : Type 0 where
   pub five_fields : length numbers ≡ 5
-  pub upto : i ≤ 5
-  pub rest : group_of line ≡ group_from (behind (take i numbers) (numbers_of (fields_from line at)))
+  pub left : List (List ℕ)
+  pub yields : YieldsList steps (λ x. x.now) s left
+  pub rest : group_of line ≡ group_from (behind (take i numbers) (numbers_of left))
 
-module _ (line : List ℕ) where
-  pub read_none : (numbers : List ℕ) → length numbers ≡ 5 → Read line numbers 0 0
-  read_none numbers h =
-      record {
-        five_fields = h;
-        upto = omega arith;
-        rest = rw (le-leb 0 (length line) (omega arith), behind_none (numbers_of (fields_of line)));
-      }
+module _ {S : Type 0} {steps : S → Option (Bor (List ℕ)) → S → Type 0} where
+  -- an item that comes is the next of those that an iterator yields
+  yielded : {s t : S} (all : List (List ℕ)) (x : Bor (List ℕ)) → YieldsList steps (λ y. y.now) s all → steps s (Some x) t
+      → (rest : List (List ℕ)) × (all ≡ x.now ∷ rest) × YieldsList steps (λ y. y.now) t rest
+  yielded [] x e step = absurd (e.runs x _ step)
+  yielded (part ∷ rest) x e step = let (same, more) = e.runs.1 x _ step in (rest, ap (λ (p : List ℕ). p ∷ rest) (sym same), record { runs = more })
 
-  module _ {numbers : List ℕ} {at i : ℕ} (r : Read line numbers at i) where
-    -- no field is left
-    pub read-few : length line < at → i < 5 → no_group ≡ group_of line
-    unfolding numbers_of
-    read-few h t =
-        sym (r.rest ∙ rw (no_field line at h, append-nil) (not_five (take i numbers) (λ e. omega (arith, length-take-le i numbers (omega (arith, r.five_fields))))))
+  -- where none comes, none is left
+  none_left : {s t : S} (all : List (List ℕ)) → YieldsList steps (λ y. y.now) s all → steps s None t → all ≡ []
+  none_left [] e step = refl
+  none_left (part ∷ rest) e step = absurd (e.runs.0 _ step)
 
-    module _ (h : at ≤ length line) (e : ℕ) (is : e ≡ at + length (before space (drop at line))) where
-      -- the next field is no number
-      pub read_broken : number_of (take (e - at) (drop at line)) ≡ nothing → no_group ≡ group_of line
+  module _ (line : List ℕ) where
+    -- no field is read
+    pub read_none : {s : S} (numbers : List ℕ) → length numbers ≡ 5 → YieldsList steps (λ x. x.now) s (fields_of line) → Read steps line numbers 0 s
+    read_none numbers h e =
+        record { five_fields = h; left = fields_of line; yields = e; rest = rw (behind_none (numbers_of (fields_of line))) }
+
+    module _ {numbers : List ℕ} {i : ℕ} {s : S} (r : Read steps line numbers i s) where
+      -- no field is left, and fewer than five were read
+      pub read_few : {t : S} → i < 5 → steps s None t → no_group ≡ group_of line
       unfolding numbers_of
-      read_broken n = sym (r.rest ∙ rw (next_field line at h e is, n))
+      read_few h step =
+          let front : length (take i numbers) ≡ i = length-take-le i numbers (omega (arith, r.five_fields)) in
+          sym (r.rest ∙ rw (none_left r.left r.yields step, append-nil) (not_five (take i numbers) (λ e. omega arith)))
 
-      -- or one more
-      pub read_more : (n : ℕ) → i < 5 → number_of (take (e - at) (drop at line)) ≡ found n → Read line (set numbers i n) (e + 1) (i + 1)
-      unfolding numbers_of
-      read_more n t m =
-          record {
-            five_fields = length-set numbers i n ∙ r.five_fields;
-            upto = omega arith;
-            rest = rw (add-one e, add-one i)
-                (r.rest ∙ rw (next_field line at h e is, m)
-                (ap group_from (behind_more numbers i n (numbers_of (fields_from line (suc e))) (omega (arith, r.five_fields)))));
-          }
+      module _ (x : Bor (List ℕ)) (t : S) (step : steps s (Some x) t) where
+        -- the numbers of the fields that are left, by the next field
+        next : (rest : List (List ℕ)) × YieldsList steps (λ y. y.now) t rest
+            × (group_of line ≡ group_from (behind (take i numbers) (one_more (number_of x.now) (numbers_of rest))))
+        unfolding numbers_of
+        next =
+            let (rest, e, more) = yielded r.left x r.yields step in
+            (rest, more, r.rest ∙ ap (λ (fs : List (List ℕ)). group_from (behind (take i numbers) (numbers_of fs))) e)
 
-    -- all five are read
-    pub read_many : i ≡ 5 → at ≤ length line → no_group ≡ group_of line
-    unfolding numbers_of
-    read_many t h =
-        let whole : take i numbers ≡ numbers = take_all i numbers (omega (arith, r.five_fields)) in
-        let e = at + length (before space (drop at line)) in
-        sym (r.rest ∙ rw (next_field line at h e refl, whole)
-        (sixth numbers (number_of (take (e - at) (drop at line))) (numbers_of (fields_from line (suc e))) r.five_fields))
+        -- the next field is no number
+        pub read_broken : number_of x.now ≡ nothing → no_group ≡ group_of line
+        read_broken n = sym (rw n at next.2)
 
-    module _ (t : i ≡ 5) (h : length line < at) where
-      -- and no field is left
-      all : group_of line ≡ group_if (leb (get_or numbers 0 0) (get_or numbers 1 0) && leb (get_or numbers 1 0) 65) (group_at numbers)
-      unfolding numbers_of
-      all =
-          let whole : take i numbers ≡ numbers = take_all i numbers (omega (arith, r.five_fields)) in
-          r.rest ∙ rw (no_field line at h, whole, append-nil) (just numbers r.five_fields)
+        -- or one more
+        pub read_more : (n : ℕ) → i < 5 → number_of x.now ≡ found n → Read steps line (set numbers i n) (i + 1) t
+        read_more n h m =
+            let (rest, more, is) = next in
+            record {
+              five_fields = length-set numbers i n ∙ r.five_fields;
+              left = rest;
+              yields = more;
+              rest = rw (add-one i) (rw m at is ∙ ap group_from (behind_more numbers i n (numbers_of rest) (omega (arith, r.five_fields))));
+            }
 
-      pub read_below : get_or numbers 1 0 < get_or numbers 0 0 → no_group ≡ group_of line
-      read_below k = sym (all ∙ rw (lt-leb (get_or numbers 0 0) (get_or numbers 1 0) k))
+      module _ (h : i ≡ 5) where
+        -- five are read
+        whole : take i numbers ≡ numbers
+        whole = take_all i numbers (omega (arith, r.five_fields))
 
-      pub read_past : get_or numbers 0 0 ≤ get_or numbers 1 0 → 65 < get_or numbers 1 0 → no_group ≡ group_of line
-      read_past f k = sym (all ∙ rw (le-leb (get_or numbers 0 0) (get_or numbers 1 0) f, lt-leb (get_or numbers 1 0) 65 k))
+        -- there is a sixth
+        pub read_many : (o : Option (Bor (List ℕ))) (t : S) → steps s o t → is_some o ≡ true → no_group ≡ group_of line
+        read_many None t step e = absurd (false≢true e)
+        read_many (Some x) t step e =
+            let (rest, more, is) = next x t step in
+            sym (is ∙ rw whole (sixth numbers (number_of x.now) (numbers_of rest) r.five_fields))
 
-      pub read-group : get_or numbers 0 0 ≤ get_or numbers 1 0 → get_or numbers 1 0 ≤ 65 → is_group (group_at numbers) ≡ group_of line
-      read-group f k = sym (all ∙ rw (le-leb (get_or numbers 0 0) (get_or numbers 1 0) f, le-leb (get_or numbers 1 0) 65 k))
+        -- there is none
+        all : (o : Option (Bor (List ℕ))) (t : S) → steps s o t → is_some o ≡ false
+            → group_of line ≡ group_if (leb (get_or numbers 0 0) (get_or numbers 1 0) && leb (get_or numbers 1 0) 65) (group_at numbers)
+        unfolding numbers_of
+        all (Some x) t step e = absurd (true≢false e)
+        all None t step e = r.rest ∙ rw (none_left r.left r.yields step, whole, append-nil) (just numbers r.five_fields)
+
+        module _ (o : Option (Bor (List ℕ))) (t : S) (step : steps s o t) (e : is_some o ≡ false) where
+          -- the last kind is below the first
+          pub read_below : get_or numbers 1 0 < get_or numbers 0 0 → no_group ≡ group_of line
+          read_below k = sym (all o t step e ∙ rw (lt-leb (get_or numbers 0 0) (get_or numbers 1 0) k))
+
+          -- or past the kinds
+          pub read_past : get_or numbers 0 0 ≤ get_or numbers 1 0 → 65 < get_or numbers 1 0 → no_group ≡ group_of line
+          read_past f k = sym (all o t step e ∙ rw (le-leb (get_or numbers 0 0) (get_or numbers 1 0) f, lt-leb (get_or numbers 1 0) 65 k))
+
+          -- or neither
+          pub read_group : get_or numbers 0 0 ≤ get_or numbers 1 0 → get_or numbers 1 0 ≤ 65 → is_group (group_at numbers) ≡ group_of line
+          read_group f k = sym (all o t step e ∙ rw (le-leb (get_or numbers 0 0) (get_or numbers 1 0) f, le-leb (get_or numbers 1 0) 65 k))

@@ -1,15 +1,12 @@
 -- What the lines' groups are printed as.
-use Rattle.std.specs.Prelude.{Bool, true, false, List, ℕ}
+use Rattle.std.specs.Prelude.{List, ℕ, Option, Result, Ok, Err}
 use Rattle.rules.specs.Numbers as N
 use Rattle.rules.specs.Outcome.{refused}
 use Rattle.rules.specs.Text.{outcome_text}
 use Rattle.rules.specs.Table.{table_rows}
-use Rattle.groups.specs.declared.Groups.{Groups}
+use Rattle.groups.specs.declared.line.Figures.{Figures}
 use Rattle.groups.specs.Rows.{figures_at}
 
-abbrev pub text_if : Bool → Groups → List ℕ
-text_if true g = outcome_text (refused N.bad_word 0 g.lines)
-text_if false g = table_rows (λ k. figures_at g.table k)
-
-abbrev pub groups_is : Groups → List ℕ
-groups_is g = text_if g.refuses g
+abbrev pub groups_text : Result (List (Option Figures)) ℕ → List ℕ
+groups_text (Ok table) = table_rows (λ k. figures_at table k)
+groups_text (Err line) = outcome_text (refused N.bad_word 0 line)

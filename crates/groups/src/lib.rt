@@ -5,16 +5,16 @@
 pub mod line;
 mod rows;
 
-ghost use Rattle.std.specs.Prelude.{◌≡◌, length};
+ghost use Rattle.std.specs.Prelude.{◌≡◌};
 ghost use Rattle.rules.specs.Table.{table_text};
-ghost use Rattle.text.specs.Paste.{pasted};
-ghost use Rattle.groups.specs.Groups.{groups_is};
+ghost use Rattle.groups.specs.Groups.{groups_text};
 
-use line::{LineGroup, end_of, group_of};
-use rows::{ROW, Table, no_rows, put_rows, some_kind, with_group};
+use arrayvec::ArrayVec;
+use line::{cut_at, group_of};
+use rows::{ROW, Table, put_rows};
 use text::put_refused;
 use words::kinds::KINDS;
-use words::{kinds, refusals};
+use words::refusals::Refusal;
 
 // So many bytes of an input are enough: what stands behind them changes no text.
 pub const FRONT: usize = 2575;
@@ -25,58 +25,41 @@ pub const OUT: usize = KINDS * ROW;
 // The byte that ends a line.
 const NEWLINE: u8 = b'\n';
 
-// What the lines are: the rows of their groups, or, where they are refused, the first bad line or the number of lines.
-#[derive(Drop)]
-struct Groups {
-    table: Table,
-    lines: usize,
-    refuses: bool,
-}
-
-// The rows of the lines' groups. Each byte is looked at four times at most, none behind the first bad line.
-fn read_groups(bytes: &[u8]) -> Groups
-    ensures { groups_is result ≡ table_text bytes.now }
+// The rows of the lines' groups, or the number of the first bad line, or of the lines where only a kind is left out. Each byte is looked at four times at most,
+// none behind the first bad line.
+fn read_groups(bytes: &[u8]) -> Result<Table, usize>
+    ensures { groups_text result ≡ table_text bytes.now }
 {
-    let mut table = no_rows();
-    let mut at = 0;
+    let mut table: Table = [None; KINDS];
+    let mut rest = bytes;
+    // How many lines were cut off: what is answered where one is bad.
     let mut lines = 0;
-    while at < bytes.len() {
-        let end = end_of(bytes, at, NEWLINE);
-        let group = group_of(&bytes[at..end]);
-        let LineGroup::Is(g) = group else {
-            return Groups {
-                table,
-                lines,
-                refuses: true,
-            };
-        };
-        if some_kind(table, g.first, g.last, true) {
-            return Groups {
-                table,
-                lines,
-                refuses: true,
-            };
+    while !rest.is_empty() {
+        let (line, behind) = cut_at(rest, NEWLINE);
+        let group = group_of(line).ok_or(lines)?;
+        let kinds = &mut table[group.first as usize..=group.last as usize];
+        if kinds.iter().any(|row| row.is_some()) {
+            return Err(lines);
         }
-        table = with_group(table, g);
+        kinds.fill(Some(group.figures));
         lines += 1;
-        at = end + 1;
+        rest = behind;
     }
-    let refuses = some_kind(table, 0, kinds::CALL_EXTERNAL_NATIVE, false);
-    Groups {
-        table,
-        lines,
-        refuses,
+    if table.iter().any(|row| row.is_none()) {
+        return Err(lines);
     }
+    Ok(table)
 }
 
-// The text for these bytes, at the front of `out`, and its length.
-pub fn table_text(bytes: &[u8], out: &mut [u8; OUT]) -> usize
-    ensures written { out.new ≡ pasted 0 (table_text bytes.now) out.old }
-    ensures next { result ≡ length (table_text bytes.now) }
+// The text for these bytes.
+pub fn table_text(bytes: &[u8]) -> ArrayVec<u8, OUT>
+    ensures { result.items ≡ table_text bytes.now }
 {
+    let mut out = ArrayVec::new();
     let groups = read_groups(bytes);
-    if groups.refuses {
-        return put_refused(out, 0, refusals::BAD_WORD, 0, groups.lines as u64);
+    match groups {
+        Ok(table) => put_rows(&table, &mut out),
+        Err(line) => put_refused(&mut out, Refusal::BadWord.at(line).in_chunk(0)),
     }
-    put_rows(groups.table, out)
+    out
 }

@@ -12,12 +12,12 @@ use lib.Seq.{drop-cons}
 use Rattle.rules.specs.Kinds as K
 use Rattle.rules.specs.Outcome.{Result, ok, no, and_then}
 use Rattle.rules.specs.Ops.{kind, op_at}
+use Rattle.rules.specs.Form.{Chunk}
 use Rattle.rules.specs.Cycles as R
 use Rattle.rules.specs.Cycles.{callee_whole}
 use Rattle.rules.proofs.Flags.{both}
 use Rattle.rules.proofs.Callees.{other_charged, callees_free}
 use Rattle.rows.specs.Tree.{tree_of}
-use Rattle.cycles.specs.Answers.{chunk_of}
 use Rattle.cycles.specs.Entry.{range_cycles}
 use Rattle.lines.specs.Costs.{both_of, calls_none, both_costs}
 
@@ -39,18 +39,18 @@ free_ops wholes (w ∷ ops) h zero =
     other_charged wholes w (eqb-false (kind w) K.call (not-true (eqb (kind w) K.call) (both (not (eqb (kind w) K.call)) (calls_none ops) h).0))
 free_ops wholes (w ∷ ops) h (suc i) = free_ops wholes ops (both (not (eqb (kind w) K.call)) (calls_none ops) h).1 i
 
-module _ (constants ops extras wholes : List ℕ) (from to : ℕ) where
-  -- the first walk refuses
-  pub first_refused : {n p : ℕ} → no n p ≡ range_cycles (chunk_of constants ops extras) [] from to → no n p ≡ both_costs (chunk_of constants ops extras) wholes from to
+module _ (c : Chunk) (wholes : List ℕ) (from to : ℕ) where
+  -- a refusal of the first walk is the refusal of both
+  pub first_refused : {n p : ℕ} → no n p ≡ range_cycles c [] from to → no n p ≡ both_costs c wholes from to
   first_refused e = rw (← e)
 
-  module _ {k : R.Cycles} (walked : ok k ≡ range_cycles (chunk_of constants ops extras) [] from to) where
-    -- the second walk is left out
-    pub walked_once : calls_none ops ≡ true → ok (both_of k k) ≡ both_costs (chunk_of constants ops extras) wholes from to
+  module _ {k : R.Cycles} (walked : ok k ≡ range_cycles c [] from to) where
+    -- where no op is a Call, the second walk would give the same as the first
+    pub walked_once : calls_none c.ops ≡ true → ok (both_of k k) ≡ both_costs c wholes from to
     walked_once h =
-        let same = callees_free (chunk_of constants ops extras) wholes (free_ops wholes ops h) (tree_of (op_at ops) from to) in
+        let same = callees_free c wholes (free_ops wholes c.ops h) (tree_of (op_at c.ops) from to) in
         rw (same, ← walked)
 
-    pub walked_twice : {x : Result R.Cycles} → x ≡ range_cycles (chunk_of constants ops extras) wholes from to
-        → and_then x (λ w. ok (both_of k w)) ≡ both_costs (chunk_of constants ops extras) wholes from to
+    -- what both walks come to, from what the second gives
+    pub walked_twice : {x : Result R.Cycles} → x ≡ range_cycles c wholes from to → and_then x (λ w. ok (both_of k w)) ≡ both_costs c wholes from to
     walked_twice e = rw (← walked, e)

@@ -1,22 +1,16 @@
 -- The two cycle walks of a chunk, and where the second is not needed.
 use Rattle.std.specs.Prelude.{Bool, true, not, ◌&&◌, List, [], ◌∷◌, ℕ, eqb}
 use Rattle.rules.specs.Kinds as K
-use Rattle.rules.specs.Outcome.{Result, ok, no, and_then}
+use Rattle.rules.specs.Outcome.{Result, ok, and_then}
 use Rattle.rules.specs.Ops.{kind}
 use Rattle.rules.specs.Form.{Chunk}
 use Rattle.rules.specs.Cycles.{Cycles}
 use Rattle.cycles.specs.Entry.{range_cycles}
 use Rattle.lines.specs.declared.costs.Both.{Both}
-use Rattle.lines.specs.declared.costs.Costs.{Costs}
-use Rattle.lines.specs.declared.costs.Costs.TheVariants.{Are, Refused}
 
 -- both figures of a chunk, from the cycle walk without its callees and the one with them
 abbrev pub both_of : Cycles → Cycles → Both
 both_of k w = record { cycles = k.cycles; cut = k.cut; whole = w.cycles }
-
-abbrev pub costs_result : Costs → Result Both
-costs_result (Are b) = ok b
-costs_result (Refused n p) = no n p
 
 -- the walk over no figures, and the one over those of the callees
 abbrev pub both_costs : Chunk → List ℕ → ℕ → ℕ → Result Both

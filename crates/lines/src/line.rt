@@ -1,18 +1,19 @@
 // One line of the sheet: the tests and walks of one chunk.
 ghost use Rattle.std.specs.Prelude.{◌≡◌};
-ghost use Rattle.rules.specs.Form.{Chunk};
 ghost use Rattle.rules.specs.Sheet.{chunk_line};
-ghost use Rattle.words.specs.Parts.{PartsOf, PartsFit};
-ghost use Rattle.lines.specs.Line.{line_result};
+ghost use Rattle.words.specs.Chunks.{chunk_of};
+ghost use Rattle.words.specs.Refusals.{result_of};
+ghost use Rattle.lines.specs.Line.{line_is};
 
-use crate::costs::{Costs, chunk_costs};
-use rows::check::{RowAnswer, chunk_row};
-use stack::chunk::{StackResult, compute_chunk_wcmu};
-use words::parts::{Parts, constants_of, extras_of, ops_of};
+use crate::costs::chunk_costs;
+use rows::check::chunk_row;
+use stack::chunk::compute_chunk_wcmu;
+use words::chunk::Chunk;
+use words::refusals::Fault;
 use words::units::{Slots, StackBytes};
 
 // A chunk's line: cycles, whether they are cut, peak in slots, stack bytes, and the cycles with its callees.
-#[derive(Clone, Copy)]
+#[derive(Clone, Copy, Debug, PartialEq, Eq)]
 pub struct Line {
     pub cycles: u32,
     pub cut: bool,
@@ -21,49 +22,18 @@ pub struct Line {
     pub whole: u32,
 }
 
-// A line, or refusal 3 to 9 or 11 with its place.
-#[derive(Drop)]
-pub enum LineAnswer {
-    Is(Line),
-    Refused { number: u32, place: usize },
-}
-
-// The line of the chunk with these parts, over the stack bytes and the whole figures of its callees: 3, 4, 5, 6, 15, the cycle walks, the stack walk, 11.
-pub fn chunk_line(words: &[u32], p: Parts, callees: &[u32], wholes: &[u32]) -> LineAnswer
-    requires { PartsFit words.now p }
-    ensures { (k : Chunk) → PartsOf words.now p k → line_result result ≡ chunk_line k callees.now wholes.now }
+// The line of a chunk, over the stack bytes and the whole figures of its callees, or a refusal: 3, 4, 5, 6, 15, the cycle walks, the stack walk, 11.
+pub fn chunk_line(chunk: &Chunk<'_>, callees: &[u32], wholes: &[u32]) -> Result<Line, Fault>
+    ensures { result_of line_is result ≡ chunk_line (chunk_of chunk.now) callees.now wholes.now }
 {
-    let ops = ops_of(words, p);
-    let constants = constants_of(words, p);
-    let row = chunk_row(p.mode, ops);
-    let range = match row {
-        RowAnswer::Is(g) => g,
-        RowAnswer::Refused { number, place } => {
-            return LineAnswer::Refused { number, place };
-        }
-    };
-    let from = range.from;
-    let to = range.to;
-    let costs = chunk_costs(constants, ops, extras_of(words, p), wholes, from, to);
-    let cost = match costs {
-        Costs::Are(c) => c,
-        Costs::Refused { number, place } => {
-            return LineAnswer::Refused { number, place };
-        }
-    };
-    let stack = compute_chunk_wcmu(constants, ops, callees, p.locals, from, to);
-    match stack {
-        StackResult::Is {
-            peak,
-            delta: _,
-            bytes,
-        } => LineAnswer::Is(Line {
-            cycles: cost.cycles,
-            cut: cost.cut,
-            peak,
-            bytes,
-            whole: cost.whole,
-        }),
-        StackResult::Refused { number, place } => LineAnswer::Refused { number, place },
-    }
+    let row = chunk_row(chunk)?;
+    let both = chunk_costs(chunk, wholes, row)?;
+    let stack = compute_chunk_wcmu(chunk, callees, row)?;
+    Ok(Line {
+        cycles: both.cycles,
+        cut: both.cut,
+        peak: stack.peak,
+        bytes: stack.bytes,
+        whole: both.whole,
+    })
 }

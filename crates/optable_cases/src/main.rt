@@ -2,9 +2,9 @@
 
 #![tactic(auto)]
 
-use filter::{Input, read_input, write_output};
-use groups::line::end_of;
-use groups::{OUT, table_text};
+use filter::{read_input, write_output};
+use groups::line::cut_at;
+use groups::table_text;
 
 // The most bytes of all cases.
 const IN: usize = 4096;
@@ -12,38 +12,16 @@ const IN: usize = 4096;
 // The byte behind a case.
 const BAR: u8 = b'|';
 
-// The text of one case.
-fn show(rt: &HostRuntime, case: &[u8]) {
-    let mut out = [0u8; OUT];
-    let end = table_text(case, &mut out);
-    write_output(
-        &mut rt.stdout(),
-        &mut rt.stderr(),
-        b"optable_cases",
-        &out[..end],
-    );
-}
-
-// The texts of all cases.
-fn show_all(rt: &HostRuntime, bytes: &[u8]) {
-    let mut at = 0;
-    while at < bytes.len() {
-        let end = end_of(bytes, at, BAR);
-        show(rt, &bytes[at..end]);
-        at = end + 1;
-    }
-}
-
 fn main(rt: HostRuntime) {
-    let mut bytes = [0u8; IN];
-    let input = read_input(
-        &mut rt.stdin(),
-        &mut rt.stderr(),
-        b"optable_cases",
-        &mut bytes,
-    );
-    let Input::Bytes(n) = input else {
+    let mut buffer = [0u8; IN];
+    let name = b"optable_cases";
+    let Some(bytes) = read_input(&mut rt.stdin(), &mut rt.stderr(), name, &mut buffer) else {
         return;
     };
-    show_all(&rt, &bytes[..n]);
+    let mut rest = bytes;
+    while !rest.is_empty() {
+        let (case, behind) = cut_at(rest, BAR);
+        write_output(&mut rt.stdout(), &mut rt.stderr(), name, &table_text(case));
+        rest = behind;
+    }
 }

@@ -7,6 +7,7 @@ use Prim.Native.Nat.{ℕ, zero, suc, ◌+◌, ◌-◌, ◌<◌, ◌≤◌}
 use native.Mathlib.Numerals.{sub-one}
 use native.Mathlib.Omega.{arith}
 use lib.ListN.{length, get_or}
+use Rattle.std.specs.Prelude.{Ok, Err}
 use Rattle.rules.specs.Ops.{kind, field_a}
 use Rattle.rules.specs.Form.{Chunk}
 use Rattle.rules.specs.Order.{listed, on_listed, member, chunk_at, callees_of, visit_each, by_marks, visit}
@@ -14,10 +15,15 @@ use Rattle.rules.proofs.Members.{none, apart}
 use Rattle.rules.proofs.ReadingAgrees.{read_words}
 use Rattle.words.specs.Parts.{parts_at, part_of, chunks_in, head_at, PartsOf}
 use Rattle.words.proofs.PartLaws.{chunk_parts}
+use Rattle.words.specs.Places.{nowhere}
+use Rattle.words.specs.declared.heads.ChunkPlace.{ChunkPlace}
+use Rattle.arrayvec.specs.ArrayVec.{ArrayVec}
+use Rattle.order.specs.declared.visit.Calls.{Calls}
+use Rattle.order.specs.declared.visit.Ring.{Ring}
 use Rattle.order.specs.declared.visit.Search.{Search}
 use Rattle.order.specs.Search.{Readable, Located, Searchable, Shows}
 use Rattle.order.proofs.MarkLaws.{opening, listing, has_room, shows_opening, shows_listing}
-use Rattle.order.proofs.ScanLaws.{Visited, scan, Rest, rest-visits, rest-ring, rest_end}
+use Rattle.order.proofs.ScanLaws.{Visited, scan, Rest, rest_visits, rest_ring, rest_end}
 
 -- what a visit comes to by the marks, where a number is left
 visit_some : (cs : List Chunk) (opened : List ℕ) (c : ℕ) (done : List ℕ) (left : ℕ) → (left ≡ 0 → ⊥)
@@ -32,89 +38,102 @@ visit_some cs opened c done (suc l) some = rw sub-one
 pub few-chunks : {ws : List ℕ} {n : ℕ} → Readable ws n → n ≤ 256
 few-chunks {ws} words = omega (arith, (read_words ws (chunks_in ws) words.reads).1.most, words.chunks)
 
--- the ops of a chunk stand between its places
-module _ {ws ops extras : List ℕ} {n : ℕ} (p : Located ws ops extras n) (c : ℕ) (lt : c < n) where
-  parts : PartsOf ws (parts_at ws (head_at (chunks_in ws) c)) (chunk_at (chunks_in ws) c)
-  parts = chunk_parts ws (chunks_in ws) p.words.reads c (rw p.words.chunks at lt)
+-- where a chunk stands, by the table, and its ops by that place
+abbrev pub place_of : Calls → ℕ → ChunkPlace
+place_of calls c = get_or calls.places.now c nowhere
 
-  pub ops-within : get_or extras c 0 ≤ length ws
-  ops-within = rw (p.extras_at c lt) (omega (arith, parts.extras-last, parts.within))
+abbrev pub ops_of : Calls → ℕ → List ℕ
+ops_of calls c = part_of (place_of calls c).ops (place_of calls c).extras calls.words.now
 
-  ops_there : part_of (get_or ops c 0) (get_or extras c 0) ws ≡ (chunk_at (chunks_in ws) c).ops
+module _ {calls : Calls} (p : Located calls) (c : ℕ) (lt : c < length calls.places.now) where
+  -- the parts at its place are those of the definition's chunk
+  parts : PartsOf calls.words.now (parts_at calls.words.now (head_at (chunks_in calls.words.now) c)) (chunk_at (chunks_in calls.words.now) c)
+  parts = chunk_parts calls.words.now (chunks_in calls.words.now) p.words.reads c (rw p.words.chunks at lt)
+
+  -- its ops end where its extras begin, within the words
+  pub ops_within : ((place_of calls c).ops ≤ (place_of calls c).extras) × ((place_of calls c).extras ≤ length calls.words.now)
+  ops_within = rw (p.ops_at c lt, p.extras_at c lt) (parts.ops_next, omega (arith, parts.extras-last, parts.within))
+
+  -- its ops are the definition's
+  ops_there : ops_of calls c ≡ (chunk_at (chunks_in calls.words.now) c).ops
   ops_there = rw (p.ops_at c lt, p.extras_at c lt) parts.ops
 
--- the visit of a chunk that is open already, or with no number left
-abbrev pub ringed : ℕ → Search → Search
-ringed c s = record { seen = s.seen; active = s.active; order = s.order; count = s.count; ring = c }
-
-module _ {ws ops extras : List ℕ} {n c : ℕ} {s : Search} (p : Searchable ws ops extras n c s) (left : ℕ) where
-  pub visited_none : left ≡ 0 → Visited ws n left c s (ringed c s)
+module _ {calls : Calls} {c : ℕ} {s : Search} (p : Searchable calls c s) (left : ℕ) where
+  -- a visit with no number left is a ring
+  pub visited_none : left ≡ 0 → Visited calls left c s (Err (record { chunk = c }))
   unfolding visit
   visited_none e opened done h = rw e (refl, p.chunk)
 
-  pub visited_open : (left ≡ 0 → ⊥) → get_or s.active c false ≡ true → Visited ws n left c s (ringed c s)
-  visited_open some e opened done h = rw (visit_some (chunks_in ws) opened c done left some, sym (h.active c p.chunk) ∙ e) (refl, p.chunk)
+  -- the visit of a chunk that is open already is a ring
+  pub visited_open : (left ≡ 0 → ⊥) → get_or s.active c false ≡ true → Visited calls left c s (Err (record { chunk = c }))
+  visited_open some e opened done h =
+      rw (visit_some (chunks_in calls.words.now) opened c done left some, sym (h.active c p.chunk) ∙ e) (refl, p.chunk)
 
   -- a listed chunk is not open, so its visit leaves the state
-  pub visited_listed : (left ≡ 0 → ⊥) → get_or s.seen c false ≡ true → Visited ws n left c s s
+  pub visited_listed : (left ≡ 0 → ⊥) → get_or s.seen c false ≡ true → Visited calls left c s (Ok s)
   visited_listed some e opened done h =
       let there : member c done ≡ true = sym (h.seen c p.chunk) ∙ e in
       let shut = none c opened (λ i. apart c done (h.apart c i) there) in
-      rw (visit_some (chunks_in ws) opened c done left some, shut, there) h
+      rw (visit_some (chunks_in calls.words.now) opened c done left some, shut, there) h
 
 -- what is known where the visit of chunk c is opened
-pub record Opens (ws ops extras : List ℕ) (n left c : ℕ) (s : Search) : Type 0 where
-  pub asked : Searchable ws ops extras n c s
+pub record Opens (calls : Calls) (left c : ℕ) (s : Search) : Type 0 where
+  pub asked : Searchable calls c s
   pub some : left ≡ 0 → ⊥
   pub shut : get_or s.active c false ≡ false
   pub new : get_or s.seen c false ≡ false
 
-module _ {ws ops extras : List ℕ} {n left c : ℕ} {s : Search} (o : Opens ws ops extras n left c s) where
-  below : c < n
+module _ {calls : Calls} {left c : ℕ} {s : Search} (o : Opens calls left c s) where
+  -- it is one of the chunks
+  below : c < length calls.places.now
   below = o.asked.chunk
 
-  few : n ≤ 256
+  -- of which there are at most 256
+  few : length calls.places.now ≤ 256
   few = few-chunks o.asked.places.words
 
-  starts : (opened done : List ℕ) → Shows s n opened done → Shows (opening c s) n (c ∷ opened) done
-  starts opened done h = shows_opening n c few s opened done below (sym (h.seen c below) ∙ o.new) h
+  -- where its calls begin to be scanned, the state shows it among the open chunks
+  starts : (opened done : List ℕ) → Shows s (length calls.places.now) opened done → Shows (opening c s) (length calls.places.now) (c ∷ opened) done
+  starts opened done h = shows_opening (length calls.places.now) c few s opened done below (sym (h.seen c below) ∙ o.new) h
 
-  -- while the calls are scanned the state shows the open visits, so the callees can be visited, and there is room for the chunk
-  module _ {end i₀ i : ℕ} {t : Search} (rest : Rest ws n (left - 1) c (opening c s) end i₀ i t) where
-    shown : (d : List ℕ) × Shows t n (c ∷ o.asked.opened) d
-    shown =
-        let p = o.asked in
-        let r = rest.gives p.opened p.done (starts p.opened p.done p.shows) in
-        (r.0, r.1)
-
-    pub inside : (k : ℕ) → k < n → Searchable ws ops extras n k t
-    inside k lt =
-        let p = o.asked in
-        record { places = p.places; chunk = lt; opened = c ∷ p.opened; done = shown.0; shows = shown.1 }
-
-    -- a call of a chunk that is listed already
-    pub passes : i < end → kind (get_or ws i 0) ≡ 30 → field_a (get_or ws i 0) < n → (left - 1 ≡ 0 → ⊥) → get_or t.seen (field_a (get_or ws i 0)) false ≡ true
-        → Rest ws n (left - 1) c (opening c s) end i₀ (i + 1) t
-    passes more call lt some e =
-        rest-visits rest t more call lt (visited_listed (inside _ lt) (left - 1) some e) few (omega (arith, shown.1.no_ring))
-
-    pub room : t.count < 256
-    room = has_room n c few t o.asked.opened shown.0 shown.1
-
-  whole : (opened done : List ℕ) → Shows s n opened done
-      → visit (chunks_in ws) left opened c done ≡ on_listed (scan ws n (left - 1) (c ∷ opened) (get_or ops c 0) (get_or extras c 0) done) (λ d. listed (d ++ (c ∷ [])))
+  -- its visit scans its calls, and then lists it
+  whole : (opened done : List ℕ) → Shows s (length calls.places.now) opened done
+      → visit (chunks_in calls.words.now) left opened c done
+      ≡ on_listed (scan calls (left - 1) (c ∷ opened) (ops_of calls c) done) (λ d. listed (d ++ (c ∷ [])))
   whole opened done h =
       rw (ops_there o.asked.places c below, o.asked.places.words.chunks)
-      (visit_some (chunks_in ws) opened c done left o.some ∙ rw (sym (h.active c below) ∙ o.shut, sym (h.seen c below) ∙ o.new))
+      (visit_some (chunks_in calls.words.now) opened c done left o.some ∙ rw (sym (h.active c below) ∙ o.shut, sym (h.seen c below) ∙ o.new))
 
-  module _ {i : ℕ} {t : Search} (rest : Rest ws n (left - 1) c (opening c s) (get_or extras c 0) (get_or ops c 0) i t) where
-    pub visited_ring : (u : Search) → i < get_or extras c 0 → kind (get_or ws i 0) ≡ 30 → field_a (get_or ws i 0) < n
-        → Visited ws n (left - 1) (field_a (get_or ws i 0)) t u → u.ring < 256 → Visited ws n left c s u
-    visited_ring u more call lt visited met opened done h =
-        let r = rest-ring rest u more call lt visited met opened done (starts opened done h) in
-        rw (whole opened done h, r.1) (refl, r.0)
+  module _ {i : ℕ} {t : Search} (rest : Rest calls (left - 1) c (opening c s) (ops_of calls c) i t) where
+    -- while the calls are scanned the state shows the open visits
+    shown : Shows t (length calls.places.now) (c ∷ o.asked.opened) t.order.items
+    shown = (rest.gives o.asked.opened o.asked.done (starts o.asked.opened o.asked.done o.asked.shows)).0
 
-    pub visited_end : get_or extras c 0 ≤ i → Visited ws n left c s (listing c t)
-    visited_end over opened done h =
+    -- so the callees can be visited
+    pub inside : (k : ℕ) → k < length calls.places.now → Searchable calls k t
+    inside k lt = record { places = o.asked.places; chunk = lt; opened = c ∷ o.asked.opened; done = t.order.items; shows = shown }
+
+    -- and there is room for the chunk
+    pub room : length t.order.items < 256
+    room = has_room (length calls.places.now) c few t o.asked.opened t.order.items shown
+
+    module _ (more : i < length (ops_of calls c)) (call : kind (get_or (ops_of calls c) i 0) ≡ 30)
+        (lt : field_a (get_or (ops_of calls c) i 0) < length calls.places.now) where
+      -- a call of a chunk that is listed already
+      pub passes : (left - 1 ≡ 0 → ⊥) → get_or t.seen (field_a (get_or (ops_of calls c) i 0)) false ≡ true
+          → Rest calls (left - 1) c (opening c s) (ops_of calls c) (i + 1) t
+      passes some e = rest_visits rest more call lt (visited_listed (inside _ lt) (left - 1) some e)
+
+      -- a call that meets a ring
+      pub visited_ring : (r : Ring) → Visited calls (left - 1) (field_a (get_or (ops_of calls c) i 0)) t (Err r) → Visited calls left c s (Err r)
+      visited_ring r visited opened done h =
+          let m = rest_ring rest more call lt visited opened done (starts opened done h) in
+          rw (whole opened done h, m.1) (refl, m.0)
+
+    -- all calls are visited: the chunk is listed
+    pub visited_end : length (ops_of calls c) ≤ i → (order : ArrayVec ℕ) → order.items ≡ t.order.items ++ (c ∷ [])
+        → Visited calls left c s (Ok (listing c t order))
+    visited_end over order e opened done h =
         let r = rest_end rest over opened done (starts opened done h) in
-        rw (whole opened done h, r.2) (shows_listing n c few t opened r.0 r.1 (sym (h.active c below) ∙ o.shut))
+        rw (whole opened done h, r.1)
+        (shows_listing (length calls.places.now) c few t opened t.order.items r.0 order e (sym (h.active c below) ∙ o.shut))

@@ -1,25 +1,26 @@
--- The lines of a sheet, printed in order: a line by its fields and its mark, one line more, and a text written over a list, one line a turn. Assumes nothing.
-use mathlib.Core.Path.{◌≡◌, refl, sym, ◌∙◌}
+-- The lines of a sheet, put in order: a line by its fields and its mark, the numbers of its row, one line more, and how far the lines are put.
+-- Assumes nothing.
+use mathlib.Core.Path.{◌≡◌, refl, sym, ap, ◌∙◌}
 use mathlib.Core.Bool.{Bool, true, false}
-use mathlib.Core.List.{List, [], ◌∷◌, ◌++◌, flatten, append_assoc, append-nil}
+use mathlib.Core.List.{List, [], ◌∷◌, ◌++◌, append_assoc, append-nil}
 use Prim.Native.Nat.{ℕ, zero, suc, ◌+◌, ◌*◌, ◌<◌, ◌≤◌}
-use native.Mathlib.Numerals.{add-one}
+use native.Mathlib.Nat.{mul-suc}
+use native.Mathlib.Numerals.{add-one, towards_suc}
 use native.Mathlib.Omega.{arith}
-use lib.ListN.{length, get_or, take, drop}
+use lib.ListN.{length, get_or, take, drop, take-append-drop}
+use lib.Seq.{length-take-le}
 use Rattle.rules.specs.Sheet.{Line, no_line, mark_number, line_numbers, line_width, tray_numbers}
 use Rattle.rules.specs.Text.{decimal, space, newline, plus_sign, line_most, line_text, lines_text}
 use Rattle.text.specs.Field.{field_text}
-use Rattle.text.specs.Paste.{Put}
-use Rattle.report.specs.Report.{cycles_text}
-use Rattle.text.proofs.PasteLaws.{then, pasted_none}
-use Rattle.sheets.proofs.TrayLaws.{tray_size, tray-row}
+use Rattle.report.specs.Report.{cycles_text, LinesFit}
 
--- the cycles of a line are a field, or one that a plus sign ends and a space, as the mark of the row says
+-- the cycles of a line are a field where the mark of the row is 0
 pub cycles_exact : (n mark : ℕ) → mark ≡ 0 → (cut : Bool) → mark ≡ mark_number cut → field_text n space ≡ cycles_text n cut
 unfolding field_text cycles_text
 cycles_exact n mark none true is = absurd (omega arith)
 cycles_exact n mark none false is = refl
 
+-- else they are a field that a plus sign ends, and a space
 pub cycles-cut : (n mark : ℕ) → (mark ≡ 0 → ⊥) → (cut : Bool) → mark ≡ mark_number cut → field_text n plus_sign ++ (space ∷ []) ≡ cycles_text n cut
 unfolding field_text cycles_text
 cycles-cut n mark some true is = append_assoc (decimal n) (plus_sign ∷ []) (space ∷ [])
@@ -29,13 +30,35 @@ cycles-cut n mark some false is = absurd (some is)
 pub row_mark : (l : Line) {row : List ℕ} → row ≡ line_numbers l → get_or row 1 0 ≡ mark_number l.cut
 row_mark l is = rw is
 
--- the fields of a line: the chunk, and the numbers of its row
-pub row_line : (c : ℕ) (l : Line) {row : List ℕ} → row ≡ line_numbers l
-    → flatten (field_text c space ∷ cycles_text (get_or row 0 0) l.cut ∷ field_text (get_or row 2 0) space ∷ field_text (get_or row 3 0) space
-    ∷ field_text (get_or row 4 0) newline ∷ [])
-    ≡ line_text c l
-unfolding flatten field_text cycles_text
-row_line c l is = rw is (simp (append_assoc, append-nil))
+-- the fields of a line, one put behind the other: the chunk, and the numbers of its row
+pub row_line : (before : List ℕ) (c : ℕ) (l : Line) {row : List ℕ} → row ≡ line_numbers l
+    → ((((before ++ field_text c space) ++ cycles_text (get_or row 0 0) l.cut) ++ field_text (get_or row 2 0) space) ++ field_text (get_or row 3 0) space)
+    ++ field_text (get_or row 4 0) newline
+    ≡ before ++ line_text c l
+unfolding field_text cycles_text
+row_line before c l is = rw is (simp append_assoc)
+
+-- how many numbers the lines have
+numbers_length : (ls : List Line) → length (tray_numbers ls) ≡ line_width * length ls
+unfolding tray_numbers
+numbers_length [] = refl
+numbers_length (l ∷ ls) = omega (arith, numbers_length ls)
+
+-- the numbers of one line among those of all
+row_among : (ls : List Line) (rest : List ℕ) (c : ℕ) → c < length ls
+    → take line_width (drop (line_width * c) (tray_numbers ls ++ rest)) ≡ line_numbers (get_or ls c no_line)
+unfolding tray_numbers
+row_among [] rest c h = absurd (omega arith)
+row_among (l ∷ ls) rest zero h = refl
+row_among (l ∷ ls) rest (suc c) h = simp (mul-suc, towards_suc) (row_among ls rest c (omega arith))
+
+-- the row of a chunk, where the rows of n chunks stand in front
+row_of : (ls : List Line) (numbers : List ℕ) (n c : ℕ) → line_width * n ≤ length numbers → take (line_width * n) numbers ≡ tray_numbers ls → c < n
+    → take line_width (drop (line_width * c) numbers) ≡ line_numbers (get_or ls c no_line)
+row_of ls numbers n c room is lt =
+    let many : line_width * n ≡ line_width * length ls = sym (length-take-le (line_width * n) numbers room) ∙ ap length is ∙ numbers_length ls in
+    let apart : numbers ≡ tray_numbers ls ++ drop (line_width * n) numbers = rw is at (sym (take-append-drop (line_width * n) numbers)) in
+    ap (λ (l : List ℕ). take line_width (drop (line_width * c) l)) apart ∙ row_among ls (drop (line_width * n) numbers) c (omega arith)
 
 -- one line more
 text_more : (order : List ℕ) (lines : List Line) (j : ℕ) → j < length order
@@ -45,36 +68,26 @@ text_more [] lines j h = absurd (omega arith)
 text_more (x ∷ order) lines zero h = append-nil (line_text x (get_or lines x no_line))
 text_more (x ∷ order) lines (suc j) h = rw (text_more order lines j (omega arith)) (sym (append_assoc (line_text x (get_or lines x no_line)) _ _))
 
-module _ (order numbers : List ℕ) (n at : ℕ) (out : List ℕ) where
-  -- after j turns: the first j lines are written, whatever lines the rows are those of, and they are short
-  pub record Written (j : ℕ) (now : List ℕ) (end : ℕ) : Type 0 where
-    pub upto : j ≤ n
-    pub short : end ≤ at + line_most * j
-    pub same : length now ≡ length out
-    pub put : (ls : List Line) → take (line_width * n) numbers ≡ tray_numbers ls → Put at (lines_text (take j order) ls) out now end
+module _ (order numbers out : List ℕ) where
+  -- after j turns: the first j lines stand behind the text, whatever lines the rows are those of, and they are short
+  pub record Written (j : ℕ) (now : List ℕ) : Type 0 where
+    pub short : length now ≤ length out + line_most * j
+    pub text : (ls : List Line) → take (line_width * length order) numbers ≡ tray_numbers ls → now ≡ out ++ lines_text (take j order) ls
 
-  pub written_none : Written 0 out at
+  -- before the first turn
+  pub written_none : Written 0 out
   unfolding lines_text
-  written_none = record { upto = omega arith; short = omega arith; same = refl; put = λ ls is. (sym (pasted_none at out), omega arith) }
+  written_none = record { short = omega arith; text = λ ls is. sym (append-nil out) }
 
-  module _ {j : ℕ} {now : List ℕ} {end : ℕ} (w : Written j now end) (room : at + line_most * n ≤ length out) (turn : j < n) where
-    pub line_room : end + line_most ≤ length now
-    line_room = omega (arith, w.short, w.same)
-
-    pub written_more : n ≤ length order → line_width * n ≤ length numbers → get_or order j 0 < n → {after : List ℕ} {r : ℕ}
-        → ((l : Line) → take line_width (drop (line_width * get_or order j 0) numbers) ≡ line_numbers l
-        → Put end (line_text (get_or order j 0) l) now after r)
-        → r ≤ end + line_most → length after ≡ length now → Written (j + 1) after r
-    written_more long rows below {after} {r} line short same =
-        let k = get_or order j 0 in
-        record {
-          upto = omega arith;
-          short = omega (arith, w.short);
-          same = same ∙ w.same;
-          put = λ ls is.
-              let before = w.put ls is in
-              let fits : at + length (lines_text (take j order) ls) ≤ length out = omega (arith, before.1, w.short) in
-              let count : length ls ≡ n = omega (arith, tray_size ls n numbers is) in
-              let row = tray-row ls numbers (rw (← count) at is) k (omega arith) in
-              rw (add-one j, text_more order ls j (omega arith)) (then at (lines_text (take j order) ls) _ out fits before (line (get_or ls k no_line) row));
-        }
+  -- the line of the chunk at j, which is put by its row
+  pub written_more : LinesFit order numbers → {j : ℕ} {now after : List ℕ} → Written j now → j < length order
+      → ((l : Line) → take line_width (drop (line_width * get_or order j 0) numbers) ≡ line_numbers l → after ≡ now ++ line_text (get_or order j 0) l)
+      → length after ≤ length now + line_most → Written (j + 1) after
+  written_more fits {j} {now} {after} w turn line short =
+      let c = get_or order j 0 in
+      record {
+        short = omega (arith, w.short);
+        text = λ ls is.
+            let row = row_of ls numbers (length order) c fits.numbers_room is (fits.chunks j turn) in
+            rw (add-one j, text_more order ls j turn, ← append_assoc out, ← w.text ls is) (line (get_or ls c no_line) row);
+      }

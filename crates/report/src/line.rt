@@ -1,10 +1,11 @@
 // The lines of a sheet that is no refusal: its heading, and the one place that reads a row.
-ghost use Rattle.std.specs.Prelude.{◌≡◌, Bool, ◌+◌, ◌≤◌, length};
+ghost use Rattle.std.specs.Prelude.{◌≡◌, ◌++◌, Bool, ◌+◌, ◌≤◌, length};
+ghost use Rattle.arrayvec.specs.ArrayVec.{array_vec_len};
 ghost use Rattle.rules.specs.Sheet.{Line, mark_number, line_numbers, line_width};
 ghost use Rattle.rules.specs.Text.{heading, line_most, line_text};
-ghost use Rattle.text.specs.Paste.{pasted, Put};
 ghost use Rattle.report.specs.Report.{cycles_text, cycles_most};
 
+use arrayvec::ArrayVec;
 use lines::row::{BYTES, CYCLES, MARK, PEAK, WHOLE};
 use text::{put_bytes, put_field};
 
@@ -21,36 +22,36 @@ const FIELDS: usize = 5;
 pub const LINE: usize = FIELDS * FIELD + 1;
 
 // The heading line.
-pub fn put_heading(out: &mut [u8], at: usize) -> usize
-    requires { at + length heading ≤ length out.old }
-    ensures written { out.new ≡ pasted at heading out.old }
-    ensures next { result ≡ at + length heading }
+pub fn put_heading<const N: usize>(out: &mut ArrayVec<u8, N>)
+    requires { array_vec_len out.old + length heading ≤ N }
+    ensures { out.new.items ≡ out.old.items ++ heading }
 {
-    put_bytes(out, at, b"chunk cycles peak bytes whole\n")
+    put_bytes(out, b"chunk cycles peak bytes whole\n");
 }
 
-// The cycles of a line and a space; a plus sign between them where the cycles are cut.
-fn put_cycles(out: &mut [u8], at: usize, cycles: u32, mark: u32) -> usize
-    requires { at + cycles_most ≤ length out.old }
-    ensures written { (cut : Bool) → mark ≡ mark_number cut → Put at (cycles_text cycles cut) out.old out.new result }
-    ensures short { result ≤ at + cycles_most }
+// The cycles of a line and a space; a plus sign between them where the cycles are cut. The mark is the number of a row of the tray, as C has it, and so no bool.
+fn put_cycles<const N: usize>(out: &mut ArrayVec<u8, N>, cycles: u32, mark: u32)
+    requires { array_vec_len out.old + cycles_most ≤ N }
+    ensures written { (cut : Bool) → mark ≡ mark_number cut → out.new.items ≡ out.old.items ++ cycles_text cycles cut }
+    ensures short { array_vec_len out.new ≤ array_vec_len out.old + cycles_most }
 {
     if mark == 0 {
-        return put_field(out, at, cycles as u64, b' ');
+        put_field(out, cycles as u64, b' ');
+    } else {
+        put_field(out, cycles as u64, b'+');
+        put_bytes(out, b" ");
     }
-    let next = put_field(out, at, cycles as u64, b'+');
-    put_bytes(out, next, b" ")
 }
 
 // The line of chunk c, whose numbers are the row.
-pub fn put_line(out: &mut [u8], at: usize, c: u32, row: &[u32]) -> usize
-    requires { (at + line_most ≤ length out.old) × (length row.now ≡ line_width) }
-    ensures written { (l : Line) → row.now ≡ line_numbers l → Put at (line_text c l) out.old out.new result }
-    ensures short { result ≤ at + line_most }
+pub fn put_line<const N: usize>(out: &mut ArrayVec<u8, N>, c: u32, row: &[u32])
+    requires { (array_vec_len out.old + line_most ≤ N) × (length row.now ≡ line_width) }
+    ensures written { (l : Line) → row.now ≡ line_numbers l → out.new.items ≡ out.old.items ++ line_text c l }
+    ensures short { array_vec_len out.new ≤ array_vec_len out.old + line_most }
 {
-    let first = put_field(out, at, c as u64, b' ');
-    let second = put_cycles(out, first, row[CYCLES], row[MARK]);
-    let third = put_field(out, second, row[PEAK] as u64, b' ');
-    let fourth = put_field(out, third, row[BYTES] as u64, b' ');
-    put_field(out, fourth, row[WHOLE] as u64, b'\n')
+    put_field(out, c as u64, b' ');
+    put_cycles(out, row[CYCLES], row[MARK]);
+    put_field(out, row[PEAK] as u64, b' ');
+    put_field(out, row[BYTES] as u64, b' ');
+    put_field(out, row[WHOLE] as u64, b'\n');
 }

@@ -1,14 +1,17 @@
 // What the program `shelf` writes, from the bytes that it read.
-ghost use Rattle.std.specs.Prelude.{◌≡◌, ◌*◌, ◌≤◌, length, take};
+ghost use Rattle.std.specs.Prelude.{◌≡◌, ◌++◌, ◌+◌, ◌*◌, ◌≤◌, OnOk, IfErr};
+ghost use Rattle.arrayvec.specs.ArrayVec.{array_vec_len};
 ghost use Rattle.rules.specs.Limits.{most_words};
-ghost use Rattle.rules.specs.Writing.{write_outcome};
-ghost use Rattle.rules.specs.Shelf.{numbers_outcome, filed_bytes, shelf_bytes};
-ghost use Rattle.text.specs.Paste.{pasted};
+ghost use Rattle.rules.specs.Outcome.{refused};
+ghost use Rattle.rules.specs.Text.{outcome_text};
+ghost use Rattle.rules.specs.Shelf.{shelf_bytes};
+ghost use Rattle.words.specs.Refusals.{refusal_number};
 
+use arrayvec::ArrayVec;
 use text::{put_refused, put_words, to_words};
 use words::limits::WORDS;
-use words::refusals;
-use writer::entry::{WriteAnswer, write_module};
+use words::refusals::{Refusal, Refused};
+use writer::entry::write_module;
 
 // The most numbers that are read.
 const NUMBERS: usize = 66000;
@@ -25,28 +28,32 @@ pub const SHELF_IN: usize = LONGEST + 1;
 // The bytes of the longest module.
 pub const SHELF_OUT: usize = 4 * WORDS;
 
-// What `shelf` writes for the first n bytes of the input, at the front of `out`, and how many bytes that is.
-pub fn shelf_bytes(input: &[u8; SHELF_IN], n: usize, out: &mut [u8; SHELF_OUT]) -> usize
-    ensures written { out.new ≡ pasted 0 (shelf_bytes (take n input.now)) out.old }
-    ensures next { result ≡ length (shelf_bytes (take n input.now)) }
+// What `shelf` writes for the bytes of an input.
+pub fn shelf_bytes(input: &[u8]) -> ArrayVec<u8, SHELF_OUT>
+    ensures { result.items ≡ shelf_bytes input.now }
 {
-    let all: &[u8] = input;
-    if n % 4 != 0 || LONGEST < n {
-        return put_refused(out, 0, refusals::UNFIT_PART, 0, 0);
+    let mut out = ArrayVec::new();
+    if let Err(refused) = put_module(input, &mut out) {
+        put_refused(&mut out, refused);
     }
-    let mut numbers = [0u32; NUMBERS];
-    let count = to_words(&all[..n], &mut numbers);
-    numbers_bytes(&numbers[..count], out)
+    out
 }
 
-// What is written for numbers: those of the lists are cut apart where the lengths say, if these are of just what is there.
-fn numbers_bytes(numbers: &[u32], out: &mut [u8]) -> usize
-    requires { 4 * most_words ≤ length out.old }
-    ensures written { out.new ≡ pasted 0 (filed_bytes (numbers_outcome numbers.now)) out.old }
-    ensures next { result ≡ length (filed_bytes (numbers_outcome numbers.now)) }
+// The words of the lent module as bytes, or a refusal, which puts nothing. The numbers of the lists are cut apart where the lengths say, if these are of just what is
+// there.
+fn put_module(input: &[u8], out: &mut ArrayVec<u8, SHELF_OUT>) -> Result<(), Refused>
+    requires { array_vec_len out.old + 4 * most_words ≤ SHELF_OUT }
+    ensures filed { OnOk result (out.new.items ≡ out.old.items ++ shelf_bytes input.now) }
+    ensures refusal { IfErr result (λ e. (out.new.items ≡ out.old.items) × (shelf_bytes input.now ≡ outcome_text (refused (refusal_number e.refusal) e.chunk e.place))) }
 {
+    let unfit = Refusal::UnfitPart.at(0).in_chunk(0);
+    if input.len() % 4 != 0 || LONGEST < input.len() {
+        return Err(unfit);
+    }
+    let mut numbers: ArrayVec<u32, NUMBERS> = ArrayVec::new();
+    to_words(input, &mut numbers);
     if numbers.len() < HEAD {
-        return put_refused(out, 0, refusals::UNFIT_PART, 0, 0);
+        return Err(unfit);
     }
     // Where the lists start behind the first, and where the last one ends.
     let constants = HEAD + numbers[1] as usize;
@@ -54,40 +61,16 @@ fn numbers_bytes(numbers: &[u32], out: &mut [u8]) -> usize
     let extras = ops + numbers[3] as usize;
     let end = extras + numbers[4] as usize;
     if end != numbers.len() || numbers[0] != 0 {
-        return put_refused(out, 0, refusals::UNFIT_PART, 0, 0);
+        return Err(unfit);
     }
-    lists_bytes(
+    let mut tray = [0u32; WORDS];
+    let n = write_module(
         &numbers[HEAD..constants],
         &numbers[constants..ops],
         &numbers[ops..extras],
         &numbers[extras..],
-        out,
-    )
-}
-
-// What is written for four lists: the words of their module, or a refusal.
-fn lists_bytes(
-    chunks: &[u32],
-    constants: &[u32],
-    ops: &[u32],
-    extras: &[u32],
-    out: &mut [u8],
-) -> usize
-    requires { 4 * most_words ≤ length out.old }
-    ensures written { out.new ≡ pasted 0 (filed_bytes (write_outcome chunks.now constants.now ops.now extras.now most_words)) out.old }
-    ensures next { result ≡ length (filed_bytes (write_outcome chunks.now constants.now ops.now extras.now most_words)) }
-{
-    let mut tray = [0u32; WORDS];
-    let answer = write_module(chunks, constants, ops, extras, &mut tray);
-    let n = match answer {
-        WriteAnswer::Refused {
-            number,
-            chunk,
-            place,
-        } => {
-            return put_refused(out, 0, number, chunk as u64, place as u64);
-        }
-        WriteAnswer::Written(n) => n as usize,
-    };
-    put_words(out, 0, &tray[..n])
+        &mut tray,
+    )?;
+    put_words(out, &tray[..n as usize]);
+    Ok(())
 }

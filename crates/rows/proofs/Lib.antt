@@ -1,12 +1,12 @@
 pub mod TreeLaws
 pub mod SearchLaws
 pub mod RangeLaws
-pub mod DecisionLaws
 pub mod TurnLaws
+pub mod Backwards
 pub mod OpenBlocks
 pub mod OpenLoops
-pub mod LoopArray
-pub mod BlockArray
+pub mod LoopTurns
+pub mod BlockTurns
 pub mod Openings
-pub mod PartRows
+pub mod RowFitting
 pub mod FitLaws

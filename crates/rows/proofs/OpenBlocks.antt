@@ -1,15 +1,14 @@
--- The open blocks of the row check: the ends that its array holds, what is still to be a row there, and each turn of its loop.
+-- The open blocks of the row check by their ends, the innermost first: what is still to be a row there, and each turn of the loop.
 -- Assumes nothing.
-use mathlib.Core.Path.{◌≡◌, refl, ap, ◌∙◌}
+use mathlib.Core.Path.{◌≡◌, refl, ◌∙◌}
 use mathlib.Core.Bool.{Bool, true, false, cond, ◌||◌}
 use mathlib.Core.List.{List, [], ◌∷◌}
 use mathlib.Core.Logic.{◌↔◌}
-use Prim.Native.Nat.{ℕ, zero, suc, ◌+◌, ◌-◌, ◌<◌, ◌≤◌}
+use Prim.Native.Nat.{ℕ, suc, ◌+◌, ◌-◌, ◌<◌, ◌≤◌}
 use native.Mathlib.Omega.{arith}
-use borrow.Author.Tests.{lt-ltb, eq-eqb, ne_eqb}
+use borrow.Author.Tests.{lt-ltb, eqb-true}
 use lib.Dec.{eqb, ltb}
-use lib.ListN.{length, get_or, set}
-use lib.Seq.{get_or-set_same, get_or-set_other}
+use lib.ListN.{length}
 use Rattle.rules.specs.Ops.{kind, field_a}
 use Rattle.rules.specs.Rows.{end, row, crossed, parse}
 use Rattle.rules.proofs.RowTree.{parse_sound, parse_complete}
@@ -18,22 +17,6 @@ use Rattle.rows.specs.declared.check.Opening.TheVariants.{Plain, Crossed}
 use Rattle.rows.specs.Tree.{HasRow, is_row}
 use Rattle.rows.specs.Answers.{opens_at}
 use Rattle.rows.proofs.TurnLaws.{Rest, ElseFits, opening, Opened, Turn, as_opened, turn}
-
--- the ends of the open blocks, the innermost first
-abbrev pub stack : List ℕ → ℕ → List ℕ
-stack ends zero = []
-stack ends (suc k) = get_or ends k 0 ∷ stack ends k
-
-pub stack-length : (ends : List ℕ) (k : ℕ) → length (stack ends k) ≡ k
-stack-length ends zero = refl
-stack-length ends (suc k) = ap suc (stack-length ends k)
-
-stack_below : (ends : List ℕ) (k j e : ℕ) → k ≤ j → stack (set ends j e) k ≡ stack ends k
-stack_below ends zero j e h = refl
-stack_below ends (suc k) j e h = rw (get_or-set_other ends j k e 0 (omega arith), stack_below ends k j e (omega arith))
-
-pub stack_push : (ends : List ℕ) (k e : ℕ) → k < length ends → stack (set ends k e) (suc k) ≡ e ∷ stack ends k
-stack_push ends k e h = rw (get_or-set_same ends k e 0 h, stack_below ends k k e (omega arith))
 
 -- where the innermost block's part ends, in a range that ends at `to`
 abbrev pub bound_of : ℕ → List ℕ → ℕ
@@ -45,6 +28,7 @@ abbrev loops_in : (ℕ → ℕ) → List ℕ → ℕ
 loops_in op [] = 0
 loops_in op (e ∷ es) = cond (eqb (kind (op e)) 25) (suc (loops_in op es)) (loops_in op es)
 
+-- whether a Loop is among them
 abbrev in_loop : (ℕ → ℕ) → List ℕ → Bool
 in_loop op es = ltb 0 (loops_in op es)
 
@@ -53,16 +37,17 @@ abbrev Nested : (ℕ → ℕ) → ℕ → List ℕ → Type 0
 Nested op to [] = Unit {0}
 Nested op to (e ∷ es) = (e < bound_of to es) × (kind (op e) ≡ 22 → ElseFits op e (bound_of to es)) × Nested op to es
 
--- what is still to be a row from i on: the rest of the innermost part, and what is left behind each end
+-- what is still to be a row behind each end
 abbrev After : (ℕ → ℕ) → ℕ → List ℕ → Type 0
 After op to [] = Unit {0}
 After op to (e ∷ es) = Rest op (in_loop op es) e (bound_of to es) × After op to es
 
+-- what is still to be a row from i on: the rest of the innermost part, and what is left behind each end
 abbrev OpenAt : (ℕ → ℕ) → ℕ → List ℕ → ℕ → Type 0
 OpenAt op to es i = HasRow op (in_loop op es) i (bound_of to es) × After op to es
 
 module _ (op : ℕ → ℕ) (from to : ℕ) where
-  -- the check at i with these blocks open: the range is a row exactly where what is open can still be one
+  -- the check at i with these blocks open, `loops` of them Loops: the range is a row exactly where what is open can still be one
   pub record Stage (es : List ℕ) (loops i : ℕ) : Type 0 where
     pub low : from + length es ≤ i
     pub within : i ≤ bound_of to es
@@ -70,19 +55,23 @@ module _ (op : ℕ → ℕ) (from to : ℕ) where
     pub counted : loops ≡ loops_in op es
     pub same : HasRow op false from to ↔ OpenAt op to es i
 
+  -- at the start no block is open
   pub start : from ≤ to → Stage [] 0 from
   start h = record { low = omega arith; within = h; nested = tt; counted = refl; same = (λ r. (r, tt), λ r. r.0) }
 
+  -- behind the innermost end there is a place for the end of each block around it
   pub room : (es : List ℕ) → Nested op to es → bound_of to es + length es ≤ to
   room [] n = omega arith
   room (e ∷ es) n = omega (arith, room es n.2)
 
-  pub few-loops : (es : List ℕ) → loops_in op es ≤ length es
-  few-loops [] = omega arith
-  few-loops (e ∷ es) =
+  -- no more blocks are Loops than are open
+  pub few_loops : (es : List ℕ) → loops_in op es ≤ length es
+  few_loops [] = omega arith
+  few_loops (e ∷ es) =
       elim (eqb (kind (op e)) 25) as (λ c. cond c (suc (loops_in op es)) (loops_in op es) ≤ suc (length es))
-      [ true ↦ omega (arith, few-loops es) | false ↦ omega (arith, few-loops es) ]
+      [ true ↦ omega (arith, few_loops es) | false ↦ omega (arith, few_loops es) ]
 
+  -- one block more is a Loop, or the others have one
   in_cons : (e : ℕ) (es : List ℕ) (c : Bool) → eqb (kind (op e)) 25 ≡ c → in_loop op (e ∷ es) ≡ c || in_loop op es
   in_cons e es true k = rw k (lt-ltb 0 (suc (loops_in op es)) (omega arith))
   in_cons e es false k = rw k
@@ -94,9 +83,11 @@ module _ (op : ℕ → ℕ) (from to : ℕ) where
 
   -- a turn of the loop inside the innermost part, which ends at `bound`
   module _ {es : List ℕ} {loops i : ℕ} (s : Stage es loops i) {bound : ℕ} (is : bound ≡ bound_of to es) (lt : i < bound) where
+    -- what the decision says of the rows there
     turn_at : {o : Opening} → o ≡ opens_at op i bound (ltb 0 loops) → Turn op (in_loop op es) i (bound_of to es) o
     turn_at e = rw (e, is, s.counted) (turn op (in_loop op es) i (bound_of to es) (rw is at lt))
 
+    -- an op that opens nothing is passed over
     pub plain_turn : Plain ≡ opens_at op i bound (ltb 0 loops) → Stage es loops (suc i)
     plain_turn e =
         let t = turn_at e in
@@ -108,14 +99,17 @@ module _ (op : ℕ → ℕ) (from to : ℕ) where
           same = (λ r. let o = s.same.0 r in (t.0 o.0, o.1), λ o. s.same.1 (t.1 o.0, o.1));
         }
 
+    -- where an op stands that must not, the range is no row
     pub crossed_turn : Crossed ≡ opens_at op i bound (ltb 0 loops) → HasRow op false from to → ⊥
     crossed_turn e r = turn_at e (s.same.0 r).0
 
     -- an If or a Loop, whose part is one block more
     module _ (c : Bool) (e : ℕ) (k : opening c e ≡ opens_at op i bound (ltb 0 loops)) where
+      -- its part ends at e
       pub opened_turn : Opened op (in_loop op es) i (bound_of to es) c e
       opened_turn = as_opened op (in_loop op es) i (bound_of to es) c e (turn_at k)
 
+      -- the check goes on inside it
       pub open_turn : Stage (e ∷ es) (cond c (suc loops) loops) (suc i)
       open_turn =
           let t = opened_turn in
@@ -133,10 +127,11 @@ module _ (op : ℕ → ℕ) (from to : ℕ) where
 
   -- the end of a part
   module _ {e : ℕ} {es : List ℕ} {loops : ℕ} (s : Stage (e ∷ es) loops e) where
-    pub else_turn : kind (op e) ≡ 22 → Stage (field_a (op e) ∷ es) loops (suc e)
-    else_turn k =
+    -- at an Else the block goes on, up to the Else's target
+    pub else_turn : eqb (kind (op e)) 22 ≡ true → Stage (field_a (op e) ∷ es) loops (suc e)
+    else_turn x =
+        let k = eqb-true (kind (op e)) 22 x in
         let f = s.nested.1 k in
-        let x = eq-eqb (kind (op e)) 22 k in
         let y : eqb (kind (op (field_a (op e)))) 22 ≡ false = simp f.closed in
         let l = in_cons (field_a (op e)) es false (simp f.closed) in
         record {
@@ -150,9 +145,9 @@ module _ (op : ℕ → ℕ) (from to : ℕ) where
           );
         }
 
-    pub close_turn : (c : Bool) → eqb (kind (op e)) 25 ≡ c → (kind (op e) ≡ 22 → ⊥) → Stage es (cond c (loops - 1) loops) (suc e)
-    close_turn c k n =
-        let x = ne_eqb (kind (op e)) 22 n in
+    -- at EndIf and EndLoop it is closed
+    pub close_turn : (c : Bool) → eqb (kind (op e)) 25 ≡ c → eqb (kind (op e)) 22 ≡ false → Stage es (cond c (loops - 1) loops) (suc e)
+    close_turn c k x =
         let least = loops_in op es in
         record {
           low = omega (arith, s.low);
@@ -164,9 +159,11 @@ module _ (op : ℕ → ℕ) (from to : ℕ) where
           same = (λ r. rw x at (s.same.0 r).1, λ o. s.same.1 ((end, refl), rw x o));
         }
 
+  -- a range that is a row has a tree
   pub row_there : HasRow op false from to → true ≡ is_row (parse (to - from) op false from to)
   row_there r = rw (parse_complete (to - from) op false from to r.0 (omega arith) r.1)
 
+  -- one that is none has no tree
   pub no_row : from ≤ to → (HasRow op false from to → ⊥) → false ≡ is_row (parse (to - from) op false from to)
   no_row h n =
       (elim (parse (to - from) op false from to) as (λ p. parse (to - from) op false from to ≡ p → false ≡ is_row p)

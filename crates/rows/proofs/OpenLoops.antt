@@ -44,14 +44,17 @@ abbrev pub LeftIn : ℕ → (ℕ → ℕ) → List ℕ → ℕ → Found → Typ
 LeftIn zero op ts i f = (ts ≡ []) × (f ≡ nothing)
 LeftIn (suc n) op ts i f = Turn (shape_of (op i)) (field_a (op i)) ts i f (λ us h. LeftIn n op us (suc i) h)
 
+-- the innermost target, or 0 where no Loop is open
 abbrev head_of : List ℕ → ℕ
 head_of [] = 0
 head_of (t ∷ ts) = t
 
+-- the first of three that finds something does so however they are grouped
 chosen : (f g h : Found) → or_else (or_else f (λ u. g)) (λ u. h) ≡ or_else f (λ u. or_else g (λ u. h))
 chosen (found i) g h = refl
 chosen nothing g h = refl
 
+-- a search that is followed by none finds what it finds
 chosen_last : (f : Found) → or_else f (λ u. nothing) ≡ f
 chosen_last (found i) = refl
 chosen_last nothing = refl
@@ -61,6 +64,7 @@ module _ (op : ℕ → ℕ) (to : ℕ) where
   abbrev pub LeftFrom : List ℕ → ℕ → Found → Type 0
   LeftFrom ts i f = LeftIn (to - i) op ts i f
 
+  -- an op that is left is one of the positions that are left
   one_less : (i : ℕ) → i < to → to - i ≡ suc (to - suc i)
   one_less i lt = omega arith
 
@@ -68,32 +72,39 @@ module _ (op : ℕ → ℕ) (to : ℕ) where
   taken : (ts : List ℕ) (i : ℕ) (f : Found) → i < to → (s : Shape) → shape_of (op i) ≡ s → Turn s (field_a (op i)) ts i f (λ us h. LeftFrom us (suc i) h) → LeftFrom ts i f
   taken ts i f lt s e t = rw (one_less i lt, e) t
 
+  -- a plain op is passed over
   plain_left : (ts : List ℕ) (i : ℕ) (f : Found) → i < to → Plain (shape_of (op i)) → LeftFrom ts (suc i) f → LeftFrom ts i f
   plain_left ts i f lt p t =
       taken ts i f lt (shape_of (op i)) refl (by_plain (λ s. Turn s (field_a (op i)) ts i f (λ us h. LeftFrom us (suc i) h)) t (λ k. t) (shape_of (op i)) p)
 
+  -- and so is one that ends the row
   ending_left : (ts : List ℕ) (i : ℕ) (f : Found) → i < to → Ending (shape_of (op i)) → LeftFrom ts (suc i) f → LeftFrom ts i f
   ending_left ts i f lt p t =
       taken ts i f lt (shape_of (op i)) refl (by_ending (λ s. Turn s (field_a (op i)) ts i f (λ us h. LeftFrom us (suc i) h)) t t (shape_of (op i)) p)
 
+  -- what is left at an op is what its shape says
   pub left_turn : (ts : List ℕ) (i : ℕ) (f : Found) → i < to → LeftFrom ts i f → Turn (shape_of (op i)) (field_a (op i)) ts i f (λ us h. LeftFrom us (suc i) h)
   left_turn ts i f lt t = rw (one_less i lt) at t
 
   -- every open Loop has its EndLoop among the positions that are left
   module _ (n i : ℕ) (less : (ts : List ℕ) (f : Found) → LeftIn n op ts (suc i) f → length ts ≤ n) where
+    -- an op that leaves the targets as they are
     same_few : (ts : List ℕ) (f : Found) → LeftIn n op ts (suc i) f → length ts ≤ suc n
     same_few ts f t = omega (arith, less ts f t)
 
+    -- an EndLoop
     closing_few : (ts : List ℕ) (f : Found) → WithInnermost ts (λ t us. LeftIn n op us (suc i) f) → length ts ≤ suc n
     closing_few [] f t = absurd t
     closing_few (u ∷ us) f t = omega (arith, less us f t)
 
+    -- a break
     breaking_few : (ts : List ℕ) (f : Found) → WithInnermost ts (λ t us. Own (eqb (field_a (op i)) t) f i (λ h. LeftIn n op ts (suc i) h)) → length ts ≤ suc n
     breaking_few [] f t = absurd t
     breaking_few (u ∷ us) f t =
         (elim (eqb (field_a (op i)) u) as (λ c. Own c f i (λ h. LeftIn n op (u ∷ us) (suc i) h) → suc (length us) ≤ suc n)
         [ true ↦ λ t. same_few (u ∷ us) f t | false ↦ λ t. same_few (u ∷ us) t.1.0 t.1.1 ]) t
 
+    -- any op
     turn_few : (s : Shape) (ts : List ℕ) (f : Found) → Turn s (field_a (op i)) ts i f (λ us h. LeftIn n op us (suc i) h) → length ts ≤ suc n
     turn_few plain ts f t = same_few ts f t
     turn_few trap ts f t = same_few ts f t
@@ -107,6 +118,7 @@ module _ (op : ℕ → ℕ) (to : ℕ) where
     turn_few breaks_if ts f t = breaking_few ts f t
     turn_few (calls k) ts f t = same_few ts f t
 
+  -- so no more Loops are open than positions are left
   pub few : (n i : ℕ) (ts : List ℕ) (f : Found) → LeftIn n op ts i f → length ts ≤ n
   few zero i ts f t = rw t.0 (omega arith)
   few (suc n) i ts f t = turn_few n i (λ us h x. few n (suc i) us h x) (shape_of (op i)) ts f t

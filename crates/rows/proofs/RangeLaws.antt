@@ -3,10 +3,8 @@
 use mathlib.Core.Path.{◌≡◌, refl, sym, subst, ap, ◌∙◌}
 use mathlib.Core.Bool.{Bool, true, false, true≢false}
 use mathlib.Core.List.{List}
-use Prim.Native.Nat.{ℕ, suc, ◌+◌, ◌-◌, ◌≤◌, max}
-use native.Mathlib.Numerals.{add-one}
+use Prim.Native.Nat.{ℕ, suc, ◌-◌, ◌≤◌, max}
 use native.Mathlib.Omega.{arith}
-use borrow.Author.Tests.{eq-eqb}
 use lib.Dec.{eqb}
 use lib.ListN.{length}
 use Rattle.rules.specs.Kinds as K
@@ -19,55 +17,44 @@ use Rattle.rules.specs.Rows.{first_backward, row_of, unless_found, stray_break, 
 use Rattle.rules.proofs.Answers.{from_ok}
 use Rattle.rules.proofs.RowTree.{parse_sound, parse_complete, row_some, walked_row}
 use Rattle.rows.specs.Tree.{HasRow, tree_of, is_row}
-use Rattle.rows.specs.Answers.{range_row}
+use Rattle.rows.specs.Ranges.{range_row}
 use Rattle.rows.proofs.TreeLaws.{tree_is}
 use Rattle.rows.proofs.SearchLaws.{first_within}
 
-abbrev stretch : ℕ → ℕ → Range
-stretch a b = record { from = a; to = b }
-
--- a Stream chunk with a Stream and a Reset
-pub positions : (mode : ℕ) (ops : List ℕ) → mode ≡ K.stream_type → (s : ℕ) → found s ≡ first_of K.stream ops 0 → (r to : ℕ) → found r ≡ first_of K.reset ops 0
-    → max (suc s) r ≡ to → ok (stretch (s + 1) to) ≡ range_by mode ops
-positions mode ops stream s a r to b e = simp (eq-eqb mode K.stream_type stream, ← a, ← b, ← e, add-one)
-
 -- the range lies in the list
-range-within : (stream : Bool) (ops : List ℕ) (g : Range) → range_if stream ops ≡ ok g → (g.from ≤ g.to) × (g.to ≤ length ops)
-range-within true ops g e =
+range_within : (stream : Bool) (ops : List ℕ) (g : Range) → range_if stream ops ≡ ok g → (g.from ≤ g.to) × (g.to ≤ length ops)
+range_within true ops g e =
     let (s, a, f) = from_ok (or_refuse (first_of K.stream ops 0) N.no_stream) _ e in
     let (r, b, is) = from_ok (or_refuse (first_of K.reset ops 0) N.no_reset) _ f in
     let y : g.from ≡ suc s = cc in
     let z : g.to ≡ max (suc s) r = cc in
     omega (arith, first_within K.stream ops 0 s (found_at _ _ a), first_within K.reset ops 0 r (found_at _ _ b))
   where
+    -- a search that is not refused has found a place
     found_at : (f : Found) (n : ℕ) {i : ℕ} → or_refuse f n ≡ ok i → f ≡ found i
     found_at (found j) n e = cc
     found_at nothing n e = absurd (let z : ◌≡◌ {A = ℕ} 0 1 = cc in omega arith)
-range-within false ops g e = let y : g.from ≡ 0 = cc in let z : g.to ≡ length ops = cc in omega arith
+range_within false ops g e = let y : g.from ≡ 0 = cc in let z : g.to ≡ length ops = cc in omega arith
 
 -- a chunk that passes 3, 4 and 5, with its range
 pub record Ahead (mode : ℕ) (ops : List ℕ) (g : Range) : Type 0 where
   pub range : ok g ≡ range_by mode ops
   pub forward : nothing ≡ first_backward (length ops) 0 ops
 
+-- what the parse of a range finds
 abbrev parsed : List ℕ → Range → Parsed
 parsed ops g = parse (g.to - g.from) (op_at ops) false g.from g.to
 
 module _ {mode : ℕ} {ops : List ℕ} {g : Range} (a : Ahead mode ops g) where
+  -- its range lies in the list
   pub range_inside : (g.from ≤ g.to) × (g.to ≤ length ops)
-  range_inside = range-within (eqb mode K.stream_type) ops g (sym a.range)
+  range_inside = range_within (eqb mode K.stream_type) ops g (sym a.range)
 
-  -- 6
-  pub range-crossed : false ≡ is_row (parsed ops g) → no N.crossed 0 ≡ range_row mode ops
-  range-crossed e = rw (← a.range, ← a.forward, none (parsed ops g) e)
-    where
-      none : (p : Parsed) → false ≡ is_row p → p ≡ crossed
-      none (row r) k = absurd (true≢false (sym k))
-      none crossed k = refl
-
+  -- where the row check says so it has a row
   pub range_has_row : true ≡ is_row (parsed ops g) → HasRow (op_at ops) false g.from g.to
   range_has_row e = some (parsed ops g) refl e
     where
+      -- the parse has found a tree
       some : (p : Parsed) → parsed ops g ≡ p → true ≡ is_row p → HasRow (op_at ops) false g.from g.to
       some (row r) is k = (r, parse_sound (g.to - g.from) (op_at ops) false g.from g.to r range_inside.0 is)
       some crossed is k = absurd (true≢false k)
@@ -83,18 +70,19 @@ module _ {mode : ℕ} {ops : List ℕ} {g : Range} (a : Ahead mode ops g) where
       [ found i ↦ refl | nothing ↦ refl ]))
 
 -- the chunk's row, where the tests hold
-pub range-row_ok : (c : Chunk) (g : Range) → range_row c.type c.ops ≡ ok g
+pub range_row_ok : (c : Chunk) (g : Range) → range_row c.type c.ops ≡ ok g
     → (chunk_row c ≡ ok (tree_of (op_at c.ops) g.from g.to)) × HasRow (op_at c.ops) false g.from g.to
     × (g.from ≤ g.to) × (g.to ≤ length c.ops)
-range-row_ok c g e =
+range_row_ok c g e =
     let (w, walks, is) = from_ok (walkable c.type c.ops) _ e in
     let (range, tree) = walked_row c.type c.ops w walks in
     let same : w.range ≡ g = cc is in
-    let fits = range-within (eqb c.type K.stream_type) c.ops g (range ∙ ap ok same) in
+    let fits = range_within (eqb c.type K.stream_type) c.ops g (range ∙ ap ok same) in
     let row = row_some c.ops g w.tree fits.0 (subst (λ (x : Range). row_of c.ops x ≡ ok w.tree) same tree) in
     (rw (walks, tree_is (op_at c.ops) false g.from g.to w.tree row), (w.tree, row), fits.0, fits.1)
 
-pub range-row_no : (c : Chunk) (n p : ℕ) → range_row c.type c.ops ≡ no n p → chunk_row c ≡ no n p
-range-row_no c n p e =
+-- a refusal of the range is one of the chunk
+pub range_row_no : (c : Chunk) (n p : ℕ) → range_row c.type c.ops ≡ no n p → chunk_row c ≡ no n p
+range_row_no c n p e =
     (elim (walkable c.type c.ops) as (λ r. and_then r (λ w. ok w.range) ≡ no n p → and_then r (λ w. ok w.tree) ≡ no n p)
     [ ok w ↦ λ e. absurd (let z : ◌≡◌ {A = ℕ} 0 1 = cc in omega arith) | no m q ↦ λ e. cc ]) e

@@ -46,6 +46,7 @@ row-end op l i to r w h =
 
 -- What a row is, by the shape of its first op: its parts, and its tree made of theirs.
 module _ (op : ℕ → ℕ) (l : Bool) (i to : ℕ) where
+  -- by the shape of its first op, what the row is
   abbrev pub OpensAs : Shape → Type 0
   OpensAs plain = Behind op l i to step
   OpensAs trap = Behind op l i to stop
@@ -59,6 +60,7 @@ module _ (op : ℕ → ℕ) (l : Bool) (i to : ℕ) where
   OpensAs breaks_if = BreakAt op l i to leave_if
   OpensAs (calls k) = Behind op l i to step
 
+  -- a row behind one op, with its tree
   behind : (first : ℕ → Row → Row) (j : ℕ) (r : Row) → IsRow op l i to (first j r) → j ≡ i → IsRow op l (suc i) to r → Behind op l i to first
   behind first j r w e v =
       let b = tree_is op l (suc i) to r v in

@@ -1,11 +1,11 @@
 -- What the decision at the first op of a stretch says of its rows: how a row goes on behind the op, or that there is none.
 -- Assumes nothing.
-use mathlib.Core.Path.{◌≡◌, refl, sym, ap, ◌∙◌}
-use mathlib.Core.Bool.{Bool, true, false, cond, ◌&&◌, ◌||◌, and-eq-true_iff, true≢false}
+use mathlib.Core.Path.{◌≡◌, refl, ap, ◌∙◌}
+use mathlib.Core.Bool.{Bool, true, false, cond, ◌&&◌, ◌||◌, and-eq-true_iff}
 use mathlib.Core.Logic.{◌⊎◌, inl, inr, ◌↔◌}
 use Prim.Native.Nat.{ℕ, suc, ◌-◌, ◌<◌, ◌≤◌}
 use native.Mathlib.Omega.{arith}
-use borrow.Author.Tests.{ltb-true, ltb-false, leb-true, eqb-true, eqb-false, lt-ltb, le-leb}
+use borrow.Author.Tests.{ltb-true, ltb-false, leb-true, eqb-true, eqb-false, lt-ltb, le-leb, both_ways}
 use lib.Dec.{eqb, leb, ltb}
 use Rattle.rules.specs.Ops.{kind, field_a}
 use Rattle.rules.specs.Rows.{Shape, plain, trap, returns, if_to, else_to, end_if, loop_to, end_loop, breaks, breaks_if, calls, shape_of}
@@ -19,14 +19,12 @@ use Rattle.rows.specs.Answers.{block_if, loop_if, opens_if, opens_at}
 use Rattle.rows.proofs.TreeLaws.{OpensAs}
 use Rattle.rows.proofs.Openings.{shaped}
 
-clash : {a : Bool} → a ≡ true → a ≡ false → ⊥
-clash p q = true≢false (sym p ∙ q)
-
 -- What is left behind the end e of a part, in a stretch that ends at b: an Else has its own part first.
 abbrev RestBy : Bool → (ℕ → ℕ) → Bool → ℕ → ℕ → Type 0
 RestBy true op l e b = HasRow op l (suc e) (field_a (op e)) × HasRow op l (suc (field_a (op e))) b
 RestBy false op l e b = HasRow op l (suc e) b
 
+-- the same, by the kind of the op at e
 abbrev pub Rest : (ℕ → ℕ) → Bool → ℕ → ℕ → Type 0
 Rest op l e b = RestBy (eqb (kind (op e)) 22) op l e b
 
@@ -36,6 +34,7 @@ pub record ElseFits (op : ℕ → ℕ) (e b : ℕ) : Type 0 where
   pub within : field_a (op e) < b
   pub closed : kind (op (field_a (op e))) ≡ 23
 
+-- an op opens a Loop whose part ends at e, or another block
 abbrev pub opening : Bool → ℕ → Opening
 opening true e = Loop e
 opening false e = Block e
@@ -56,6 +55,7 @@ module _ (op : ℕ → ℕ) (l : Bool) (i b : ℕ) where
   Turn (Loop e) = Opened true e
   Turn Crossed = HasRow op l i b → ⊥
 
+  -- a decision that opens a block says so
   pub as_opened : (c : Bool) (e : ℕ) → Turn (opening c e) → Opened c e
   as_opened c e = elim c as (λ c. Turn (opening c e) → Opened c e) [ true ↦ λ t. t | false ↦ λ t. t ]
 
@@ -70,20 +70,24 @@ module _ (op : ℕ → ℕ) (l : Bool) (i b : ℕ) where
   tested x t yes-then no-then = (elim t as (λ c. t ≡ c → Turn (x c)) [ true ↦ yes-then | false ↦ no-then ]) refl
 
   module _ (lt : i < b) where
+    -- a row from i on opens by the shape of its first op
     open_as : (s : Shape) → shape_of (op i) ≡ s → HasRow op l i b → OpensAs op l i b s
     open_as s e h = shaped op l i b h lt s e
 
     module _ (t : ℕ) (is-if : shape_of (op i) ≡ if_to t) where
+      -- at an If it has EndIf at the target, or Else before it
       as_if : HasRow op l i b → IfAt op l i b t ⊎ ElseAt op l i b (t - 1) (field_a (op (t - 1)))
       as_if h = open_as (if_to t) is-if h
 
+      -- an If leads forward, inside the stretch
       if_outside : ltb i t && leb t b ≡ false → HasRow op l i b → ⊥
       if_outside n h =
           let p : (i < t) × (t ≤ b) = elim (as_if h) [ inl o ↦ omega arith | inr o ↦ omega arith ] in
-          clash (simp (lt-ltb i t p.0, le-leb t b p.1)) n
+          both_ways _ n (simp (lt-ltb i t p.0, le-leb t b p.1))
 
       -- an Else stands before the target
       module _ (is_else : eqb (kind (op (t - 1))) 22 ≡ true) where
+        -- with Else before the target, behind the If, and EndIf where that leads, the part ends at the Else
         else_opened : i < t → let f = field_a (op (t - 1)) in ltb (t - 1) f && ltb f b && eqb (kind (op f)) 23 ≡ true → Opened false (t - 1)
         else_opened h y =
             let e = t - 1 in
@@ -103,7 +107,7 @@ module _ (op : ℕ → ℕ) (l : Bool) (i b : ℕ) where
               is_loop = simp k;
               fits = λ _. record { behind = after; within = before; closed = closed };
               split = rw is_else (
-                λ r. elim (as_if r) [ inl o ↦ absurd (clash is_else o.no_else) | inr o ↦ (o.arm, (o.other, o.rest)) ],
+                λ r. elim (as_if r) [ inl o ↦ absurd (both_ways _ o.no_else is_else) | inr o ↦ (o.arm, (o.other, o.rest)) ],
                 λ (p, r). (
                   if_else i e f p.0 r.0.0 r.1.0,
                   (refl, is-if ∙ ap if_to target, behind, after, before, else_shape (op e) k, end_if_shape (op f) closed, p.1, r.0.1, r.1.1),
@@ -111,35 +115,40 @@ module _ (op : ℕ → ℕ) (l : Bool) (i b : ℕ) where
               );
             }
 
+        -- with Else before the target and no EndIf where that leads there is no row
         else_crossed : let f = field_a (op (t - 1)) in ltb (t - 1) f && ltb f b && eqb (kind (op f)) 23 ≡ false → HasRow op l i b → ⊥
         else_crossed y h = elim (as_if h) [
-          | inl o ↦ clash is_else o.no_else
-          | inr o ↦ clash (simp (lt-ltb _ _ o.else_behind, lt-ltb _ _ o.within, o.closed)) y
+          | inl o ↦ both_ways _ o.no_else is_else
+          | inr o ↦ both_ways _ y (simp (lt-ltb _ _ o.else_behind, lt-ltb _ _ o.within, o.closed))
         ]
 
       module _ (no_else : eqb (kind (op (t - 1))) 22 ≡ false) where
+        -- with EndIf at the target the part ends there
         end_opened : i < t → ltb t b && eqb (kind (op t)) 23 ≡ true → Opened false t
         end_opened h y =
             let p = (and-eq-true_iff (ltb t b) (eqb (kind (op t)) 23)).0 y in
             let before = ltb-true t b p.0 in
             let closed = eqb-true (kind (op t)) 23 p.1 in
             closed_at false t h before (simp closed) (simp closed) (
-              λ r. elim (as_if r) [ inl o ↦ (o.arm, o.rest) | inr o ↦ absurd (clash o.is_else no_else) ],
+              λ r. elim (as_if r) [ inl o ↦ (o.arm, o.rest) | inr o ↦ absurd (both_ways _ no_else o.is_else) ],
               λ (p, r). (if_then i t p.0 r.0, (refl, is-if, h, before, end_if_shape (op t) closed, p.1, r.1)),
             )
 
-        end-crossed : ltb t b && eqb (kind (op t)) 23 ≡ false → HasRow op l i b → ⊥
-        end-crossed y h = elim (as_if h) [ inl o ↦ clash (simp (lt-ltb t b o.within, o.closed)) y | inr o ↦ clash o.is_else no_else ]
+        -- with no Else before the target and no EndIf at it there is no row
+        end_crossed : ltb t b && eqb (kind (op t)) 23 ≡ false → HasRow op l i b → ⊥
+        end_crossed y h = elim (as_if h) [ inl o ↦ both_ways _ y (simp (lt-ltb t b o.within, o.closed)) | inr o ↦ both_ways _ no_else o.is_else ]
 
+      -- the decision at an If
       if_turn : Turn (opens_if op i t b)
       if_turn =
           tested (λ _. opens_if op i t b) (ltb i t && leb t b)
           (λ a. let h = ltb-true i t ((and-eq-true_iff (ltb i t) (leb t b)).0 a).0 in tested (λ _. opens_if op i t b) (eqb (kind (op (t - 1))) 22)
           (λ e. rw (a, e) (tested (λ c. block_if c (t - 1)) _ (else_opened e h) (else_crossed e)))
-          (λ e. rw (a, e) (tested (λ c. block_if c t) _ (end_opened e h) (end-crossed e))))
+          (λ e. rw (a, e) (tested (λ c. block_if c t) _ (end_opened e h) (end_crossed e))))
           (λ a. rw a (if_outside a))
 
     module _ (t : ℕ) (is_loop : shape_of (op i) ≡ loop_to t) where
+      -- with EndLoop before the target of a Loop the part ends there
       loop_opened : ltb (suc i) t && leb t b && eqb (kind (op (t - 1))) 25 ≡ true → Opened true (t - 1)
       loop_opened y =
           let e = t - 1 in
@@ -156,18 +165,20 @@ module _ (op : ℕ → ℕ) (l : Bool) (i b : ℕ) where
             λ (p, r). (loop i e p.0 r.0, (refl, is_loop ∙ ap loop_to target, behind, before, end_loop_shape (op e) closed, p.1, r.1)),
           )
 
+      -- with no EndLoop before the target there is no row
       loop_crossed : ltb (suc i) t && leb t b && eqb (kind (op (t - 1))) 25 ≡ false → HasRow op l i b → ⊥
       loop_crossed y h =
           let o = open_as (loop_to t) is_loop h in
-          clash (simp (lt-ltb (suc i) t (omega arith), le-leb t b (omega arith), o.closed)) y
+          both_ways _ y (simp (lt-ltb (suc i) t (omega arith), le-leb t b (omega arith), o.closed))
 
     -- Break and BreakIf, which stand in a Loop
     break_turn : (first : ℕ → Row → Row) → (HasRow op l i b → BreakAt op l i b first)
         → ((r : Row) → l ≡ true → IsRow op l (suc i) b r → IsRow op l i b (first i r)) → Turn (cond l Plain Crossed)
     break_turn first goes back =
         tested (λ c. cond c Plain Crossed) l (λ y. (λ h. (goes h).behind.rest, λ h. (first i h.0, back h.0 y h.1)))
-        (λ n h. clash (goes h).in_loop n)
+        (λ n h. both_ways _ n (goes h).in_loop)
 
+    -- the decision at any op
     pub turn : Turn (opens_at op i b l)
     turn =
         by_kind (op i) (λ s. shape_of (op i) ≡ s → Turn (opens_at op i b l))
@@ -183,6 +194,7 @@ module _ (op : ℕ → ℕ) (l : Bool) (i b : ℕ) where
         (λ k e. rw k (λ h. (open_as trap e h).rest, λ h. (stop i h.0, (refl, lt, rw e tt, h.1))))
         (λ n e. rw (far (kind (op i)) n) (λ h. (open_as plain e h).rest, λ h. (step i h.0, (refl, lt, rw e tt, h.1)))) refl
       where
+        -- a kind before If or past BreakIf is told apart by the tests
         far : (k : ℕ) → (21 ≤ k → k ≤ 27 → ⊥) → ltb k 21 || ltb 27 k ≡ true
         far k n =
             (elim (ltb k 21) as (λ c. ltb k 21 ≡ c → c || ltb 27 k ≡ true)

@@ -1,29 +1,8 @@
--- What the answers of the range and of the row check stand for in document 01.
-use Rattle.std.specs.Prelude.{Bool, true, false, cond, ◌&&◌, ◌||◌, List, ℕ, suc, ◌-◌, eqb, leb, ltb}
-use Rattle.rules.specs.Outcome as O
+-- What an op opens, as the row check tells it.
+use Rattle.std.specs.Prelude.{Bool, true, false, cond, ◌&&◌, ◌||◌, ℕ, suc, ◌-◌, eqb, leb, ltb}
 use Rattle.rules.specs.Ops.{kind, field_a}
-use Rattle.rules.specs.Rows as R
-use Rattle.rows.specs.declared.range.Range.{Range}
-use Rattle.rows.specs.declared.range.RangeAnswer as A
 use Rattle.rows.specs.declared.check.Opening.{Opening}
 use Rattle.rows.specs.declared.check.Opening.TheVariants.{Plain, Block, Loop, Crossed}
-use Rattle.rows.specs.declared.check.RowAnswer as W
-
-abbrev pub range_is : Range → R.Range
-range_is g = record { from = g.from; to = g.to }
-
--- refusals 3 and 4, place 0
-abbrev pub range_result : A.RangeAnswer → O.Result R.Range
-range_result (A.TheVariants.Is g) = O.ok (range_is g)
-range_result (A.TheVariants.Refused n) = O.no n 0
-
-abbrev pub row_result : W.RowAnswer → O.Result R.Range
-row_result (W.TheVariants.Is g) = O.ok (range_is g)
-row_result (W.TheVariants.Refused n p) = O.no n p
-
--- the range of what may be walked, in a chunk of that type
-abbrev pub range_row : ℕ → List ℕ → O.Result R.Range
-range_row mode ops = O.and_then (R.walkable mode ops) (λ w. O.ok w.range)
 
 abbrev pub block_if : Bool → ℕ → Opening
 block_if true e = Block e

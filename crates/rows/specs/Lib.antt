@@ -1,3 +1,4 @@
 pub mod Tree
 pub mod Opens
+pub mod Ranges
 pub mod Answers

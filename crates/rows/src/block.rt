@@ -2,10 +2,12 @@
 ghost use Rattle.std.specs.Prelude.{ℕ, get_or};
 ghost use Rattle.rows.specs.Opens.{Opens, TellsCall, StepFits};
 
-use words::{fields, kinds};
+use words::fields;
+use words::fields::is;
+use words::kinds::Kind;
 
 // An op that is passed over, a Call by its callee, one that ends the row, a break, or a block by the positions of its ends.
-#[derive(Drop)]
+#[derive(Clone, Copy, Debug, PartialEq, Eq)]
 pub enum Block {
     Plain,
     Call(usize),
@@ -27,31 +29,30 @@ pub fn block_at(ops: &[u32], i: usize) -> Block
     ensures calls { TellsCall (get_or ops.now i 0) result }
 {
     let w = ops[i];
-    let k = w / fields::KIND_UNIT;
     let t = (w % fields::B_UNIT) as usize;
-    if k == kinds::IF {
+    if is(w, Kind::If) {
         let e = t - 1;
         let last = ops[e];
-        if last / fields::KIND_UNIT == kinds::ELSE {
+        if is(last, Kind::Else) {
             let f = (last % fields::B_UNIT) as usize;
             return Block::IfElse(e, f);
         }
         return Block::If(t);
     }
-    if k == kinds::CALL {
+    if is(w, Kind::Call) {
         return Block::Call(t);
     }
-    if k == kinds::LOOP {
+    if is(w, Kind::Loop) {
         let end = t - 1;
         return Block::Loop(end);
     }
-    if k == kinds::BREAK {
+    if is(w, Kind::Break) {
         return Block::Break;
     }
-    if k == kinds::BREAK_IF {
+    if is(w, Kind::BreakIf) {
         return Block::BreakIf;
     }
-    if k == kinds::RETURN || k == kinds::TRAP {
+    if is(w, Kind::Return) || is(w, Kind::Trap) {
         return Block::Ends;
     }
     Block::Plain

@@ -1,19 +1,26 @@
-// The row check: one pass over a range, with the ends of the open blocks in an array.
+// The row check: one pass over a range, with the ends of the open blocks in a list.
 ghost use Rattle.std.specs.Prelude.{◌≡◌, false, ◌*◌, ◌-◌, ◌≤◌, ◌<◌, length};
 ghost use Rattle.rules.specs.Limits.{most_words};
 ghost use Rattle.rules.specs.Ops.{op_at};
 ghost use Rattle.rules.specs.Rows.{parse};
+ghost use Rattle.words.specs.Refusals.{result_of};
 ghost use Rattle.rows.specs.Tree.{is_row};
-ghost use Rattle.rows.specs.Answers.{opens_if, opens_loop, opens_at, row_result, range_row};
+ghost use Rattle.rows.specs.Ranges.{range_is, range_row};
+ghost use Rattle.rows.specs.Answers.{opens_if, opens_loop, opens_at};
 
-use crate::range::{Range, RangeAnswer, check_forward_control_flow_targets, range_of};
-use crate::room;
+use crate::range::{Range, check_forward_control_flow_targets, range_of};
+use crate::room::{FEW_OPS, FEW_PLACES, MOST_PLACES, SOME_OPS, SOME_PLACES};
 use crate::stray::first_stray;
-use words::found::Found;
-use words::{fields, kinds, refusals};
+use arrayvec::ArrayVec;
+use words::chunk::Chunk;
+use words::fields;
+use words::fields::is;
+use words::kinds::Kind;
+use words::refusals::{Fault, Refusal};
 
 // What the op at a position does to the open blocks: nothing, or it opens one that ends at a position, or it stands where it must not.
-#[derive(Drop)]
+// The last is a case beside the others, and no `None`: the one caller answers `false` there, so an Option would be taken apart and hand nothing on.
+#[derive(Clone, Copy, Debug, PartialEq, Eq)]
 pub enum Opening {
     Plain,
     Block(usize),
@@ -30,14 +37,14 @@ fn opens_if(ops: &[u32], i: usize, t: usize, to: usize) -> Opening
         return Opening::Crossed;
     }
     let e = t - 1;
-    if ops[e] / fields::KIND_UNIT == kinds::ELSE {
+    if is(ops[e], Kind::Else) {
         let f = (ops[e] % fields::B_UNIT) as usize;
-        if e < f && f < to && ops[f] / fields::KIND_UNIT == kinds::END_IF {
+        if e < f && f < to && is(ops[f], Kind::EndIf) {
             return Opening::Block(e);
         }
         return Opening::Crossed;
     }
-    if t < to && ops[t] / fields::KIND_UNIT == kinds::END_IF {
+    if t < to && is(ops[t], Kind::EndIf) {
         return Opening::Block(t);
     }
     Opening::Crossed
@@ -51,13 +58,13 @@ fn opens_loop(ops: &[u32], i: usize, t: usize, to: usize) -> Opening
     if t <= i + 1 || to < t {
         return Opening::Crossed;
     }
-    if ops[t - 1] / fields::KIND_UNIT == kinds::END_LOOP {
+    if is(ops[t - 1], Kind::EndLoop) {
         return Opening::Loop(t - 1);
     }
     Opening::Crossed
 }
 
-// What the op at i opens, in a stretch that ends at `to`.
+// What the op at i opens, in a stretch that ends at `to`. The kind stays a number: those from If to BreakIf stand together, and most ops are passed over by that.
 fn opens_at(ops: &[u32], i: usize, to: usize, in_loop: bool) -> Opening
     requires { (i < to) × (to ≤ length ops.now) }
     ensures { result ≡ opens_at (op_at ops.now) i to in_loop }
@@ -65,118 +72,87 @@ fn opens_at(ops: &[u32], i: usize, to: usize, in_loop: bool) -> Opening
     let w = ops[i];
     let k = w / fields::KIND_UNIT;
     let t = (w % fields::B_UNIT) as usize;
-    if k < kinds::IF || kinds::BREAK_IF < k {
+    if k < Kind::If as u32 || k > Kind::BreakIf as u32 {
         return Opening::Plain;
     }
-    if k == kinds::IF {
+    if k == Kind::If as u32 {
         return opens_if(ops, i, t, to);
     }
-    if k == kinds::LOOP {
+    if k == Kind::Loop as u32 {
         return opens_loop(ops, i, t, to);
     }
-    if (kinds::BREAK <= k) & in_loop {
+    if (k >= Kind::Break as u32) & in_loop {
         return Opening::Plain;
     }
     Opening::Crossed
 }
 
-// Whether the positions from `from` up to `to` are a row, in a lent array: a block takes two ops, so half the range is room enough. A block that is
-// open keeps the position at which its part ends; there an Else goes on to its own target, and EndIf and EndLoop close the block.
-fn row_within(ops: &[u32], from: usize, to: usize, ends: &mut [u32]) -> bool
-    requires { (from ≤ to) × (to ≤ length ops.now) × (length ops.now ≤ most_words) × (to - from ≤ 2 * length ends.old) }
-    ensures { result ≡ is_row (parse (to - from) (op_at ops.now) false from to) }
+// Whether a range is a row, with room for so many open blocks: a block takes two ops, so half the range is room enough, and no more than a module has words,
+// which fits in memory. A block that is open keeps the position at which its part ends; there an Else goes on to its own target, and EndIf and EndLoop close
+// the block.
+fn row_within<const N: usize>(chunk: &Chunk<'_>, range: Range) -> bool
+    requires { (range.from ≤ range.to) × (range.to ≤ length chunk.now.ops.now) × (range.to - range.from ≤ 2 * N) × (N ≤ most_words) }
+    ensures { result ≡ is_row (parse (range.to - range.from) (op_at chunk.now.ops.now) false range.from range.to) }
 {
-    let mut depth: usize = 0;
+    let ops = chunk.ops;
+    let mut ends: ArrayVec<u32, N> = ArrayVec::new();
     let mut loops: usize = 0;
-    let mut i = from;
-    while i < to {
-        let mut bound = to;
-        if depth != 0 {
-            bound = ends[depth - 1] as usize;
-        }
+    for i in range.from..range.to {
+        let bound = match ends.last() {
+            Some(end) => *end as usize,
+            None => range.to,
+        };
         if i < bound {
             let opening = opens_at(ops, i, bound, 0 < loops);
             match opening {
                 Opening::Plain => {}
-                Opening::Block(end) => {
-                    ends[depth] = end as u32;
-                    depth += 1;
-                }
+                Opening::Block(end) => ends.push(end as u32),
                 Opening::Loop(end) => {
-                    ends[depth] = end as u32;
-                    depth += 1;
+                    ends.push(end as u32);
                     loops += 1;
                 }
                 Opening::Crossed => return false,
             }
-        } else if ops[i] / fields::KIND_UNIT == kinds::ELSE {
-            ends[depth - 1] = ops[i] % fields::B_UNIT;
         } else {
-            depth -= 1;
-            if ops[i] / fields::KIND_UNIT == kinds::END_LOOP {
+            let _ = ends.pop();
+            if is(ops[i], Kind::Else) {
+                ends.push(ops[i] % fields::B_UNIT);
+            } else if is(ops[i], Kind::EndLoop) {
                 loops -= 1;
             }
         }
-        i += 1;
     }
     true
 }
 
-// Whether the positions from `from` up to `to` are a row.
-pub fn is_row(ops: &[u32], from: usize, to: usize) -> bool
-    requires { (from ≤ to) × (to ≤ length ops.now) × (length ops.now ≤ most_words) }
-    ensures { result ≡ is_row (parse (to - from) (op_at ops.now) false from to) }
+// Whether a range is a row. It picks its room itself, as `first_stray` does: `room` says why.
+pub fn is_row(chunk: &Chunk<'_>, range: Range) -> bool
+    requires { (range.from ≤ range.to) × (range.to ≤ length chunk.now.ops.now) }
+    ensures { result ≡ is_row (parse (range.to - range.from) (op_at chunk.now.ops.now) false range.from range.to) }
 {
-    if to - from <= room::FEW_OPS {
-        let mut ends = [0u32; room::FEW_PLACES];
-        return row_within(ops, from, to, &mut ends);
+    let n = range.to - range.from;
+    if n <= FEW_OPS {
+        return row_within::<FEW_PLACES>(chunk, range);
     }
-    if to - from <= room::SOME_OPS {
-        let mut ends = [0u32; room::SOME_PLACES];
-        return row_within(ops, from, to, &mut ends);
+    if n <= SOME_OPS {
+        return row_within::<SOME_PLACES>(chunk, range);
     }
-    let mut ends = [0u32; room::MOST_PLACES];
-    row_within(ops, from, to, &mut ends)
+    row_within::<MOST_PLACES>(chunk, range)
 }
 
-// The range of a chunk that may be walked, or refusal 3, 4, 5, 6 or 15.
-#[derive(Drop)]
-pub enum RowAnswer {
-    Is(Range),
-    Refused { number: u32, place: usize },
-}
-
-// The tests before a walk, in their order: 3, 4, 5, 6, 15.
-pub fn chunk_row(mode: u32, ops: &[u32]) -> RowAnswer
-    requires { length ops.now ≤ most_words }
-    ensures { row_result result ≡ range_row mode ops.now }
+// The range of a chunk that may be walked, by the tests before a walk in their order: refusal 3, 4, 5, 6 or 15.
+pub fn chunk_row(chunk: &Chunk<'_>) -> Result<Range, Fault>
+    ensures { result_of range_is result ≡ range_row chunk.now.mode chunk.now.ops.now }
 {
-    let found = range_of(mode, ops);
-    let range = match found {
-        RangeAnswer::Refused(number) => {
-            return RowAnswer::Refused { number, place: 0 };
-        }
-        RangeAnswer::Is(g) => g,
-    };
-    let backward = check_forward_control_flow_targets(ops);
-    if let Found::At(place) = backward {
-        return RowAnswer::Refused {
-            number: refusals::BACKWARD,
-            place,
-        };
+    let range = range_of(chunk.mode, chunk.ops)?;
+    if let Some(place) = check_forward_control_flow_targets(chunk.ops) {
+        return Err(Refusal::Backward.at(place));
     }
-    if !is_row(ops, range.from, range.to) {
-        return RowAnswer::Refused {
-            number: refusals::CROSSED,
-            place: 0,
-        };
+    if !is_row(chunk, range) {
+        return Err(Refusal::Crossed.at(0));
     }
-    let stray = first_stray(ops, range.from, range.to);
-    if let Found::At(place) = stray {
-        return RowAnswer::Refused {
-            number: refusals::STRAY_BREAK,
-            place,
-        };
+    if let Some(place) = first_stray(chunk, range) {
+        return Err(Refusal::StrayBreak.at(place));
     }
-    RowAnswer::Is(range)
+    Ok(range)
 }

@@ -1,4 +1,4 @@
-// The test of breaks: one pass over a row, with the targets of the open Loops in an array.
+// The test of breaks: one pass over a row, with the targets of the open Loops in a list.
 ghost use Rattle.std.specs.Prelude.{◌≡◌, false, ◌*◌, ◌-◌, ◌≤◌, length};
 ghost use Rattle.rules.specs.Limits.{most_words};
 ghost use Rattle.rules.specs.Ops.{op_at};
@@ -6,49 +6,49 @@ ghost use Rattle.rules.specs.Rows.{stray_break};
 ghost use Rattle.words.specs.Found.{found_of};
 ghost use Rattle.rows.specs.Tree.{HasRow, tree_of};
 
-use crate::room;
-use words::found::Found;
-use words::{fields, kinds};
+use crate::range::Range;
+use crate::room::{FEW_OPS, FEW_PLACES, MOST_PLACES, SOME_OPS, SOME_PLACES};
+use arrayvec::ArrayVec;
+use words::chunk::Chunk;
+use words::fields;
+use words::kinds::Kind;
 
-// The first Break or BreakIf of a row whose operand is not the target of the innermost Loop around it, in a lent array: a Loop takes two ops, so half the
-// range is room enough. In a row every EndLoop closes the innermost open Loop, so the blocks between need no place.
-fn stray_within(ops: &[u32], from: usize, to: usize, targets: &mut [u32]) -> Found
-    requires { (from ≤ to) × (to ≤ length ops.now) × (length ops.now ≤ most_words) × (to - from ≤ 2 * length targets.old) × HasRow (op_at ops.now) false from to }
-    ensures { found_of result ≡ stray_break (op_at ops.now) 0 (tree_of (op_at ops.now) from to) }
+// The first Break or BreakIf of a row whose operand is not the target of the innermost Loop around it, with room for so many open Loops: a Loop takes two ops,
+// so half the range is room enough, and no more than a module has words, which fits in memory. In a row every EndLoop closes the innermost open Loop, so the
+// blocks between need no place.
+fn stray_within<const N: usize>(chunk: &Chunk<'_>, row: Range) -> Option<usize>
+    requires { (row.from ≤ row.to) × (row.to ≤ length chunk.now.ops.now) × (row.to - row.from ≤ 2 * N) × (N ≤ most_words) × HasRow (op_at chunk.now.ops.now) false row.from row.to }
+    ensures { found_of result ≡ stray_break (op_at chunk.now.ops.now) 0 (tree_of (op_at chunk.now.ops.now) row.from row.to) }
 {
-    let mut loops: usize = 0;
-    let mut i = from;
-    while i < to {
-        let w = ops[i];
+    let mut targets: ArrayVec<u32, N> = ArrayVec::new();
+    for i in row.from..row.to {
+        let w = chunk.ops[i];
+        // A number, since the four kinds stand together: one comparison passes over the others.
         let k = w / fields::KIND_UNIT;
-        if kinds::LOOP <= k && k <= kinds::BREAK_IF {
-            if k == kinds::LOOP {
-                targets[loops] = w % fields::B_UNIT;
-                loops += 1;
-            } else if k == kinds::END_LOOP {
-                loops -= 1;
-            } else if w % fields::B_UNIT != targets[loops - 1] {
-                return Found::At(i);
+        if Kind::Loop as u32 <= k && k <= Kind::BreakIf as u32 {
+            if k == Kind::Loop as u32 {
+                targets.push(w % fields::B_UNIT);
+            } else if k == Kind::EndLoop as u32 {
+                let _ = targets.pop();
+            } else if targets.last() != Some(&(w % fields::B_UNIT)) {
+                return Some(i);
             }
         }
-        i += 1;
     }
-    Found::Nothing
+    None
 }
 
-// The first Break or BreakIf of a row that names another target.
-pub fn first_stray(ops: &[u32], from: usize, to: usize) -> Found
-    requires { (from ≤ to) × (to ≤ length ops.now) × (length ops.now ≤ most_words) × HasRow (op_at ops.now) false from to }
-    ensures { found_of result ≡ stray_break (op_at ops.now) 0 (tree_of (op_at ops.now) from to) }
+// The first Break or BreakIf of a row that names another target. It picks its room itself, as `is_row` does: `room` says why.
+pub fn first_stray(chunk: &Chunk<'_>, row: Range) -> Option<usize>
+    requires { (row.from ≤ row.to) × (row.to ≤ length chunk.now.ops.now) × HasRow (op_at chunk.now.ops.now) false row.from row.to }
+    ensures { found_of result ≡ stray_break (op_at chunk.now.ops.now) 0 (tree_of (op_at chunk.now.ops.now) row.from row.to) }
 {
-    if to - from <= room::FEW_OPS {
-        let mut targets = [0u32; room::FEW_PLACES];
-        return stray_within(ops, from, to, &mut targets);
+    let n = row.to - row.from;
+    if n <= FEW_OPS {
+        return stray_within::<FEW_PLACES>(chunk, row);
     }
-    if to - from <= room::SOME_OPS {
-        let mut targets = [0u32; room::SOME_PLACES];
-        return stray_within(ops, from, to, &mut targets);
+    if n <= SOME_OPS {
+        return stray_within::<SOME_PLACES>(chunk, row);
     }
-    let mut targets = [0u32; room::MOST_PLACES];
-    stray_within(ops, from, to, &mut targets)
+    stray_within::<MOST_PLACES>(chunk, row)
 }

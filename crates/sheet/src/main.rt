@@ -1,17 +1,17 @@
 // The program `sheet`: the sheet of the module on standard input, on standard output.
+// What programs share is `filter::run`; a root file each is left.
 
 #![tactic(auto)]
 
-use filter::{Input, read_input, write_output};
-use report::{IN, OUT, sheet_text};
+use report::{IN, sheet_text};
 
 fn main(rt: HostRuntime) {
-    let mut bytes = [0u8; IN];
-    let input = read_input(&mut rt.stdin(), &mut rt.stderr(), b"sheet", &mut bytes);
-    let Input::Bytes(n) = input else {
-        return;
-    };
-    let mut out = [0u8; OUT];
-    let end = sheet_text(&bytes, n, &mut out);
-    write_output(&mut rt.stdout(), &mut rt.stderr(), b"sheet", &out[..end]);
+    filter::run(
+        &mut rt.stdin(),
+        &mut rt.stdout(),
+        &mut rt.stderr(),
+        b"sheet",
+        &mut [0u8; IN],
+        sheet_text,
+    );
 }

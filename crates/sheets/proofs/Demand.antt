@@ -8,6 +8,7 @@ use native.Mathlib.Omega.{arith}
 use lib.Dec.{ltb}
 use lib.ListN.{length, get_or, drop}
 use lib.Seq.{take_at}
+use Rattle.std.specs.Prelude.{Ok}
 use Rattle.rules.specs.Outcome.{ok, Outcome, answer, refused}
 use Rattle.rules.specs.Reading.{read}
 use Rattle.rules.specs.Rows.{Row, chunk_row}
@@ -23,8 +24,8 @@ use Rattle.rules.proofs.StackBound.{stack_bounded}
 use Rattle.rules.proofs.WholeBound.{whole_bounded}
 use Rattle.rules.proofs.Demand.{cycles_bounded, mark_exact}
 use Rattle.words.specs.Parts.{chunks_in}
-use Rattle.sheets.specs.declared.module.SheetAnswer.TheVariants.{Lines}
-use Rattle.sheets.specs.Module.{answer_outcome, count_of}
+use Rattle.words.specs.Refusals.{outcome_of}
+use Rattle.sheets.specs.Module.{count_of}
 use Rattle.sheets.proofs.TrayLaws.{tray-length, tray_number}
 use Rattle.sheets.proofs.SheetLaws.{all_lines}
 
@@ -43,6 +44,7 @@ MarkAt ws c numbers =
     × (get_or numbers (line_width * c + mark_place) 0 ≡ mark_number (ltb cycle_cap e.cycles))
 
 module _ (ws tray : List ℕ) (s : Sheet) (answers : sheet_outcome ws (length tray) ≡ answer s) (c : ℕ) (lt : c < length (chunks_in ws)) where
+  -- its words are accepted with this sheet
   accepted : Accepted ws (length tray) (chunks_in ws) s
   accepted = accepts ws (length tray) s answers
 
@@ -80,19 +82,22 @@ module _ (ws tray : List ℕ) (s : Sheet) (answers : sheet_outcome ws (length tr
       rw (number bytes_place (omega arith)) (stack_bounded ws (length tray) (chunks_in ws) s accepted c lt ways keeps)
 
 -- an answer that counts lines comes from a sheet with so many
-from_count : (o : Outcome Sheet) (n : ℕ) → answer_outcome (Lines n) ≡ count_of o → (s : Sheet) × (o ≡ answer s) × (length s.lines ≡ n)
+from_count : (o : Outcome Sheet) (n : ℕ) → answer n ≡ count_of o → (s : Sheet) × (o ≡ answer s) × (length s.lines ≡ n)
 from_count (answer s) n e = (s, refl, cc)
 from_count (refused m c p) n e = absurd (let z : ◌≡◌ {A = ℕ} 0 1 = cc in omega arith)
 
--- A call of `module_sheet` that came back with Lines n, by the two clauses of its contract alone: the tray was lent as `tray` and is left as `after`.
-module _ (ws tray after : List ℕ) (n : ℕ) (answered : answer_outcome (Lines n) ≡ count_of (sheet_outcome ws (length tray)))
+-- A call of `module_sheet` that came back with Ok n, by the two clauses of its contract alone: the tray was lent as `tray` and is left as `after`.
+module _ (ws tray after : List ℕ) (n : ℕ) (answered : outcome_of {A = ℕ} {B = ℕ} (λ m. m) (Ok n) ≡ count_of (sheet_outcome ws (length tray)))
     (written : after ≡ sheet_tray (sheet_outcome ws (length tray)) tray) (c : ℕ) (lt : c < n) where
+  -- there is a sheet with so many lines
   counted : (s : Sheet) × (sheet_outcome ws (length tray) ≡ answer s) × (length s.lines ≡ n)
   counted = from_count (sheet_outcome ws (length tray)) n answered
 
+  -- so its chunks are those of the module
   in-module : c < length (chunks_in ws)
   in-module = omega (arith, counted.2, all_lines (chunks_in ws) counted.0 (accepted_sheet (accepts ws (length tray) counted.0 counted.1)))
 
+  -- and its tray was left
   left : after ≡ sheet_tray (answer counted.0) tray
   left = written ∙ ap (λ (o : Outcome Sheet). sheet_tray o tray) counted.1
 

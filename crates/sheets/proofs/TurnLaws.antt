@@ -1,31 +1,22 @@
 -- The turns over the call order: the lines of the chunks from one turn on give those of the whole order. Assumes nothing.
 use mathlib.Core.Path.{◌≡◌, refl, sym, ap, ◌∙◌}
-use mathlib.Core.List.{List, ◌∷◌, map}
+use mathlib.Core.List.{List, map}
 use Prim.Native.Nat.{ℕ, suc, ◌+◌, ◌*◌, ◌<◌, ◌≤◌}
 use native.Mathlib.Numerals.{add-one}
 use native.Mathlib.Omega.{arith}
-use lib.ListN.{length, get_or, take, drop, set, replicate, length-take, length-set, length-replicate, drop_of_length-le}
-use lib.Seq.{drop-cons, get_or-take, take-set-lt}
+use lib.ListN.{length, get_or, take, drop, set, replicate, length-set, length-replicate, drop_of_length-le}
+use lib.Seq.{drop-cons, take-set-lt}
 use Rattle.rules.specs.Limits.{most_chunks}
-use Rattle.rules.specs.Outcome.{Result, ok, no, Outcome, answer, refused, followed_by, in_chunk}
+use Rattle.rules.specs.Outcome.{Outcome, answer, refused, followed_by, in_chunk}
+use Rattle.rules.specs.Form.{Chunk}
 use Rattle.rules.specs.Order.{chunk_at}
 use Rattle.rules.specs.Sheet as R
 use Rattle.rules.specs.Sheet.{no_line, chunk_line, lines_in, line_numbers, line_width, tray_numbers}
 use Rattle.rules.proofs.Mapped.{map_alike, map-set}
-use Rattle.rules.proofs.ReadingAgrees.{read_words}
-use Rattle.words.specs.declared.parts.Parts.{Parts}
-use Rattle.words.specs.Parts.{parts_from, chunks_in, PartsOf, PartsFit}
-use Rattle.words.specs.declared.heads.Places.{Places}
-use Rattle.words.specs.Places.{PlacedAt}
-use Rattle.words.proofs.PartLaws.{chunk_fits, at_within, chunk_parts}
 use Rattle.text.specs.Paste.{pasted}
-use Rattle.sheets.specs.Module.{in_order, rows_of, Blank, Ordering}
+use Rattle.sheets.specs.Module.{numbers_of, empty_lines, Blank}
 use Rattle.sheets.proofs.RowLaws.{taken_alike}
 use Rattle.sheets.proofs.TrayLaws.{tray_stored}
-
--- what all turns come to
-abbrev pub turns : List ℕ → List ℕ → ℕ → Outcome (List R.Line)
-turns ws order n = lines_in (take n order) (chunks_in ws) (replicate n no_line)
 
 -- one number of each line, in a list that has room for the most chunks
 pub record Column (f : R.Line → ℕ) (n : ℕ) (lines : List R.Line) (numbers : List ℕ) : Type 0 where
@@ -33,10 +24,12 @@ pub record Column (f : R.Line → ℕ) (n : ℕ) (lines : List R.Line) (numbers 
   pub is : take n numbers ≡ map f lines
 
 module _ (f : R.Line → ℕ) where
-  column_begins : f no_line ≡ 0 → (n : ℕ) → n ≤ most_chunks → Column f n (replicate n no_line) (replicate most_chunks 0)
+  -- zeros are a column of empty lines
+  column_begins : f no_line ≡ 0 → (n : ℕ) → n ≤ most_chunks → Column f n (empty_lines n) (replicate most_chunks 0)
   column_begins zeros n few =
       record { size = length-replicate {A = ℕ} most_chunks 0; is = taken_alike 0 n most_chunks few ∙ sym (map_alike f n no_line ∙ rw zeros) }
 
+  -- a line's number stored in its place
   column_stored : {n : ℕ} {lines : List R.Line} {numbers : List ℕ} → Column f n lines numbers → (c : ℕ) → c < n → (l : R.Line)
       → Column f n (set lines c l) (set numbers c (f l))
   column_stored {n} {lines} {numbers} k c below l =
@@ -45,6 +38,7 @@ module _ (f : R.Line → ℕ) where
         is = take-set-lt n numbers c (f l) below ∙ ap (λ (xs : List ℕ). set xs c (f l)) k.is ∙ sym (map-set f lines c l);
       }
 
+-- the stack bytes, and the whole figure: what the callers' walks read of a line
 abbrev pub bytes_of : R.Line → ℕ
 bytes_of l = l.bytes
 
@@ -52,21 +46,20 @@ abbrev pub whole_of : R.Line → ℕ
 whole_of l = l.whole
 
 -- before turn j: the lines so far, their rows, their stack bytes and their whole figures
-pub record Lined (ws order : List ℕ) (n j : ℕ) (numbers bytes wholes : List ℕ) : Type 0 where
-  pub upto : j ≤ n
+pub record Lined (cs : List Chunk) (order : List ℕ) (n j : ℕ) (numbers bytes wholes : List ℕ) : Type 0 where
   pub lines : List R.Line
   pub count : length lines ≡ n
   pub rows : take (line_width * n) numbers ≡ tray_numbers lines
   pub in_bytes : Column bytes_of n lines bytes
   pub in_wholes : Column whole_of n lines wholes
-  pub gives : turns ws order n ≡ lines_in (drop j (take n order)) (chunks_in ws) lines
+  pub gives : lines_in order cs (empty_lines n) ≡ lines_in (drop j order) cs lines
 
-pub lined_begins : (ws order : List ℕ) (n : ℕ) → n ≤ most_chunks → {numbers : List ℕ} → Blank n numbers
-    → Lined ws order n 0 numbers (replicate most_chunks 0) (replicate most_chunks 0)
-lined_begins ws order n few blank =
+-- before the first turn no line is worked out
+pub lined_begins : (cs : List Chunk) (order : List ℕ) (n : ℕ) → n ≤ most_chunks → {numbers : List ℕ} → Blank n numbers
+    → Lined cs order n 0 numbers (replicate most_chunks 0) (replicate most_chunks 0)
+lined_begins cs order n few blank =
     record {
-      upto = omega arith;
-      lines = replicate n no_line;
+      lines = empty_lines n;
       count = length-replicate n no_line;
       rows = blank;
       in_bytes = column_begins bytes_of refl n few;
@@ -74,79 +67,47 @@ lined_begins ws order n few blank =
       gives = refl;
     }
 
-module _ {ws order : List ℕ} {n j : ℕ} {numbers bytes wholes : List ℕ} (l : Lined ws order n j numbers bytes wholes) where
+module _ {cs : List Chunk} {order : List ℕ} {n j : ℕ} {numbers bytes wholes : List ℕ} (l : Lined cs order n j numbers bytes wholes) where
   -- all turns are done
-  pub lined_ends : n ≤ j
-      → answer (record { order = take n order; numbers = take (line_width * n) numbers }) ≡ rows_of (in_order (take n order) (turns ws order n))
+  pub lined_ends : length order ≤ j → answer (take (line_width * n) numbers) ≡ numbers_of (lines_in order cs (empty_lines n))
   unfolding lines_in
   lined_ends h =
-      let out : length (take n order) ≤ j = omega (arith, length-take n order) in
-      let all : turns ws order n ≡ answer l.lines =
-      l.gives ∙ ap (λ (os : List ℕ). lines_in os (chunks_in ws) l.lines) (drop_of_length-le (take n order) out) in
+      let all : lines_in order cs (empty_lines n) ≡ answer l.lines =
+      l.gives ∙ ap (λ (os : List ℕ). lines_in os cs l.lines) (drop_of_length-le order h) in
       rw (all, l.rows)
 
-  module _ (more : j < n) where
-    -- the chunk whose turn it is, and the turns behind it
-    abbrev rest : Result R.Line → Outcome (List R.Line)
-    rest r = followed_by (in_chunk (get_or order j 0) r) (λ x. lines_in (drop (suc j) (take n order)) (chunks_in ws) (set l.lines (get_or order j 0) x))
+  module _ (more : j < length order) where
+    -- the line of the chunk whose turn it is
+    abbrev pub line : Outcome R.Line
+    line = in_chunk (get_or order j 0) (chunk_line (chunk_at cs (get_or order j 0)) (take n bytes) (take n wholes))
 
-    turn : n ≤ length order → turns ws order n ≡ rest (chunk_line (chunk_at (chunks_in ws) (get_or order j 0)) (take n bytes) (take n wholes))
+    -- the turns behind it
+    abbrev rest : Outcome R.Line → Outcome (List R.Line)
+    rest o = followed_by o (λ x. lines_in (drop (suc j) order) cs (set l.lines (get_or order j 0) x))
+
+    -- the lines are those of this turn and the turns behind it
+    turn : lines_in order cs (empty_lines n) ≡ rest line
     unfolding lines_in
-    turn room =
-        let first = drop-cons (take n order) j 0 (omega (arith, length-take n order))
-        ∙ ap (λ (c : ℕ). c ∷ drop (suc j) (take n order)) (get_or-take n order j 0 more) in
+    turn =
         l.gives
-        ∙ ap (λ (os : List ℕ). lines_in os (chunks_in ws) l.lines) first
+        ∙ ap (λ (os : List ℕ). lines_in os cs l.lines) (drop-cons order j 0 more)
         ∙ rw (l.in_bytes.is, l.in_wholes.is)
 
-    pub lined_more : n ≤ most_chunks → n ≤ length order → get_or order j 0 < n → (x : R.Line)
-        → ok x ≡ chunk_line (chunk_at (chunks_in ws) (get_or order j 0)) (take n bytes) (take n wholes)
+    -- the line of this turn's chunk is stored
+    pub lined_more : get_or order j 0 < n → (x : R.Line) → answer x ≡ line
         → {after : List ℕ} → after ≡ pasted (line_width * get_or order j 0) (line_numbers x) numbers
-        → Lined ws order n (j + 1) after (set bytes (get_or order j 0) x.bytes) (set wholes (get_or order j 0) x.whole)
-    lined_more few room below x e stored =
+        → Lined cs order n (j + 1) after (set bytes (get_or order j 0) x.bytes) (set wholes (get_or order j 0) x.whole)
+    lined_more below x e stored =
         let c = get_or order j 0 in
         record {
-          upto = omega arith;
           lines = set l.lines c x;
           count = length-set l.lines c x ∙ l.count;
           rows = rw (stored, ← l.count) (tray_stored l.lines numbers (rw (← l.count) at l.rows) c (omega (arith, l.count)) x);
           in_bytes = column_stored bytes_of l.in_bytes c below x;
           in_wholes = column_stored whole_of l.in_wholes c below x;
-          gives = turn room ∙ ap rest (sym e) ∙ rw (add-one j);
+          gives = turn ∙ ap rest (sym e) ∙ rw (add-one j);
         }
 
-    pub lined_refuses : n ≤ length order → (m p : ℕ) → no m p ≡ chunk_line (chunk_at (chunks_in ws) (get_or order j 0)) (take n bytes) (take n wholes)
-        → refused m (get_or order j 0) p ≡ turns ws order n
-    lined_refuses room m p e = sym (turn room ∙ ap rest (sym e))
-
--- the parts of the chunk whose turn it is
-module _ {ws order : List ℕ} {places : Places} {n : ℕ} (o : Ordering ws places order n) (j : ℕ) (more : j < n) where
-  below : get_or order j 0 < length (chunks_in ws)
-  below = omega (arith, o.chunks j more, o.words.chunks)
-
-  placed : PlacedAt ws places (get_or order j 0)
-  placed = o.placed (get_or order j 0) (o.chunks j more)
-
-  pub turn_head : get_or places.heads (get_or order j 0) 0 < length ws
-  turn_head = at_within ws (chunks_in ws) o.words.reads (get_or order j 0) below _ placed.head
-
-  -- they are at the places that were kept
-  abbrev pub turn_parts : Parts
-  turn_parts =
-      let k = get_or order j 0 in
-      parts_from ws (get_or places.heads k 0) (get_or places.ops k 0) (get_or places.extras k 0) (get_or places.ends k 0)
-
-  module _ (p : Parts) (is : p ≡ turn_parts) where
-    pub turn_parts_lem : PartsOf ws p (chunk_at (chunks_in ws) (get_or order j 0))
-    turn_parts_lem =
-        rw (is, placed.head, placed.ops_at, placed.extras_at, placed.end_at)
-        (chunk_parts ws (chunks_in ws) o.words.reads (get_or order j 0) below)
-
-    pub turn_fits : PartsFit ws p
-    turn_fits =
-        record {
-          chunk = chunk_at (chunks_in ws) (get_or order j 0);
-          parts = turn_parts_lem;
-          fits = chunk_fits ws (chunks_in ws) o.words.reads (get_or order j 0) below;
-          short = (read_words ws (chunks_in ws) o.words.reads).0;
-        }
+    -- a refusal of this turn's chunk refuses the lines
+    pub lined_refuses : {m c p : ℕ} → refused m c p ≡ line → refused m c p ≡ numbers_of (lines_in order cs (empty_lines n))
+    lined_refuses e = rw (turn ∙ ap rest (sym e))

@@ -1,52 +1,41 @@
--- What an op does to a level: a Call's rise, the figures of an op and the level behind it, as the code computes them, and their bounds.
+-- What an op does to a level: the figures of an op and the level behind it, as the code computes them, and their bounds.
 -- Assumes nothing.
 use mathlib.Core.Path.{◌≡◌, refl}
 use mathlib.Core.Bool.{Bool, true, false, cond, ◌&&◌, and-eq-true_iff}
 use mathlib.Core.List.{List, [], ◌∷◌}
-use Prim.Native.Nat.{ℕ, ◌+◌, ◌%◌, ◌<◌, ◌≤◌, max}
+use Prim.Native.Nat.{ℕ, ◌+◌, ◌%◌, ◌^◌, ◌<◌, ◌≤◌, max}
 use native.Mathlib.Omega.{arith}
-use borrow.Author.Tests.{leb-true, ne_eqb}
-use lib.Dec.{T, eqb, leb}
+use borrow.Author.Tests.{leb-true}
+use lib.Dec.{eqb, leb}
 use lib.IntN.{ℤ, pos, nat_abs, ◌+ℤ◌, ◌-ℤ◌}
-use lib.Signed.{lt_z, non_neg}
 use lib.ListN.{length, get_or}
-use mir.Syntax.{w32, w64}
-use mir.Val.{Fits, SFits, to_z}
-use Rattle.rules.specs.Ops.{Figures, Group, kind, field_a, field_b, table, between, in_groups, figures_of}
-use Rattle.rules.specs.Stack.{callee_slots, call_rise}
+use mir.Syntax.{w64}
+use mir.Val.{to_z, of_z}
+use Rattle.std.specs.Int.{int_max}
+use Rattle.std.proofs.lemmas.Int.{ints, to_z-of_z}
+use Rattle.rules.specs.Ops.{Figures, Group, kind, field_b, field_a, table, between, in_groups, figures_of}
+use Rattle.rules.specs.Stack.{call_rise, at_least_zero}
 use Rattle.stack.specs.declared.level.Effect.{Effect}
 use Rattle.stack.specs.declared.level.Level.{Level}
 use Rattle.words.proofs.OpLaws.{read_op}
 use Rattle.stack.specs.Levels.{effect_at, level_over, SmallEffect, Small}
-use Rattle.stack.proofs.SignedLaws.{back, near_back, sum_near, sum_back, difference_near, difference_fits, difference_back}
-use Rattle.stack.proofs.SignedLaws.{raised, not_raised, at_least_zero_near, greater_near}
 
--- A Call's rise, of a callee of so many slots.
-module _ (callees : List ℕ) (w slots : ℕ) (few : slots ≤ 134217727) (are : slots ≡ callee_slots callees (field_a w)) where
-  abbrev rise_read : ℤ
-  rise_read = to_z w64 slots -ℤ to_z w64 (field_b w)
-
-  pub rise_small : nat_abs (call_rise callees w) ≤ 134217727
-  rise_small =
-      rw (← are)
-      (greater_near (pos slots -ℤ pos (field_b w)) (pos 1) 134217727 (omega (arith, difference_near slots (field_b w))) (omega arith))
-
-  pub rise_is : {t : Bool} → lt_z (back rise_read) (pos 1) ≡ t → cond t (pos 1) (back rise_read) ≡ call_rise callees w
-  rise_is h = let e = difference_back slots (field_b w) (omega arith) in let t = rw e at h in rw (e, ← are, t)
-
--- the figures of an op are small
+-- Growth and shrink are small.
 record SmallFigures (f : Figures) : Type 0 where
   growth : f.growth ≤ 5
   shrink : f.shrink ≤ 65535
 
+-- of two small figures either is small
 either : (t : Bool) (f g : Figures) → SmallFigures f → SmallFigures g → SmallFigures (cond t f g)
 either true f g p q = p
 either false f g p q = q
 
+-- whether all groups of a table are small
 abbrev all_small : List Group → Bool
 all_small [] = true
 all_small (g ∷ gs) = leb g.cost.growth 5 && (leb g.cost.shrink 65535 && all_small gs)
 
+-- by such a table the figures of every kind are small
 groups_small : (gs : List Group) → all_small gs ≡ true → (k : ℕ) → SmallFigures (in_groups gs k)
 unfolding in_groups
 groups_small [] t k = record { growth = omega arith; shrink = omega arith }
@@ -56,6 +45,7 @@ groups_small (g ∷ gs) t k =
     let s : SmallFigures g.cost = record { growth = leb-true _ _ a.0; shrink = leb-true _ _ b.0 } in
     either (between g.first g.last k) g.cost (in_groups gs k) s (groups_small gs b.1 k)
 
+-- the figures of every word are small
 figures_small : (w : ℕ) → SmallFigures (figures_of w)
 figures_small w =
     either (eqb (kind w) 30) _ _ (omega arith)
@@ -73,59 +63,53 @@ module _ (ops callees : List ℕ) (i g s : ℕ) (within : i < length ops) where
   here = get_or ops i 0
 
   abbrev shift_read : ℤ
-  shift_read = to_z w64 g -ℤ to_z w64 s
+  shift_read = to_z w64 (of_z w64 (to_z w64 g -ℤ to_z w64 s))
+
+  abbrev Effected : ℤ → Type 0
+  Effected r = (◌≡◌ {A = Effect} (record { rise = r; shift = shift_read }) (effect_at ops callees i)) × SmallEffect (record { rise = r; shift = shift_read })
 
   module _ (grows : g ≡ (figures_of here).growth) (shrinks : s ≡ (figures_of here).shrink) where
+    -- both fit a field
     few : max g s ≤ 65535
     few = let f = figures_small here in omega arith
 
-    pub shift_fits : SFits w64 shift_read
-    shift_fits = difference_fits g s (omega (arith, few))
+    -- by whether it is a Call
+    effect_is : (call : Bool) → call ≡ eqb (kind here) 30 → (r : ℤ) → r ≡ cond call (call_rise callees here) (pos g) → nat_abs r ≤ 134217727
+        → Effected (to_z w64 (of_z w64 r))
+    effect_is call is r e n =
+        let m = few in
+        let b : to_z w64 (of_z w64 r) ≡ r = omega (arith, ints) in
+        let d : shift_read ≡ pos g -ℤ pos s = omega (arith, ints) in
+        (rw (b, d, e, is, grows, shrinks, read_op ops i within), rw (b, d) (record { rise = n; shift = omega (arith, ints) }))
 
-    abbrev Effected : ℤ → Type 0
-    Effected r = (◌≡◌ {A = Effect} (record { rise = r; shift = back shift_read }) (effect_at ops callees i)) × SmallEffect (record { rise = r; shift = back shift_read })
+    -- of a Call, whose rise is r
+    pub effect_call : true ≡ eqb (kind here) 30 → (r : ℤ) → r ≡ call_rise callees here → nat_abs r ≤ 134217727 → Effected (to_z w64 (of_z w64 r))
+    effect_call is = effect_is true is
 
-    effect_is : (r : ℤ) → r ≡ cond (eqb (kind here) 30) (call_rise callees here) (pos g) → nat_abs r ≤ 134217727 → Effected (back r)
-    effect_is r e n =
-        let b = near_back r (omega arith) in
-        let d = difference_back g s (omega (arith, few)) in
-        (rw (b, d, e, grows, shrinks, read_op ops i within), rw (b, d) (record { rise = n; shift = omega (arith, few, difference_near g s) }))
+    -- of another op, whose rise is its growth
+    pub effect_plain : false ≡ eqb (kind here) 30 → Effected (to_z w64 g)
+    effect_plain is = effect_is false is (pos g) refl (omega (arith, few))
 
-    pub effect_call : (r : ℤ) → kind here ≡ 30 → r ≡ call_rise callees here → nat_abs r ≤ 134217727 → Effected (back r)
-    effect_call r k e n = effect_is r (rw k e) n
+-- the machine's sum of two numbers
+abbrev sum_read : ℤ → ℤ → ℤ
+sum_read a b = to_z w64 (of_z w64 (to_z w64 (of_z w64 a) +ℤ to_z w64 (of_z w64 b)))
 
-    pub effect_plain : (kind here ≡ 30 → ⊥) → Effected (to_z w64 g)
-    effect_plain k = effect_is (pos g) (simp (ne_eqb (kind here) 30 k)) (omega (arith, few))
+-- a number near 0, raised to 0, as the machine reads it
+raised_read : (z : ℤ) → nat_abs z < 2 ^ 63 → nat_abs (to_z w64 (of_z w64 (int_max z (pos 0)))) ≡ at_least_zero z
+raised_read z h = grind (arith, to_z-of_z)
 
 -- the level behind an op
 module _ (l : Level) (e : Effect) (s : Small l 1073741824) (t : SmallEffect e) where
-  abbrev during_at : ℤ
-  during_at = back l.offset +ℤ back e.rise
+  -- its offset
+  pub offset_over : sum_read l.offset e.shift ≡ l.offset +ℤ e.shift
+  offset_over = omega (arith, ints)
 
-  during_is : back during_at ≡ l.offset +ℤ e.rise
-  during_is = sum_back l.offset e.rise (omega arith)
-
-  read : (b : Bool) → lt_z (to_z w64 l.peak.0) (back during_at) ≡ b → lt_z (pos l.peak.0) (l.offset +ℤ e.rise) ≡ b
-  read b h = rw (near_back (pos l.peak.0) (omega arith), during_is) at h
-
-  module _ (up : lt_z (to_z w64 l.peak.0) (back during_at) ≡ true) where
-    pub peak_fits : T (non_neg (back during_at)) × Fits w32 (nat_abs (back during_at))
-    peak_fits =
-        rw during_is
-        ((raised l.peak.0 (l.offset +ℤ e.rise) (read true up)).0, record { fits = omega (arith, sum_near l.offset e.rise) })
-
-    pub over_up : ◌≡◌ {A = Level}
-        (record { offset = back (back l.offset +ℤ back e.shift); peak = record { 0 = nat_abs (back during_at) }; broken = l.broken }) (level_over l e)
-    over_up = rw (during_is, sum_back l.offset e.shift (omega arith), (raised l.peak.0 (l.offset +ℤ e.rise) (read true up)).1)
-
-  pub over_same : lt_z (to_z w64 l.peak.0) (back during_at) ≡ false
-      → ◌≡◌ {A = Level} (record { offset = back (back l.offset +ℤ back e.shift); peak = l.peak; broken = l.broken }) (level_over l e)
-  over_same h = rw (sum_back l.offset e.shift (omega arith), ← not_raised l.peak.0 (l.offset +ℤ e.rise) (read false h))
+  -- the height while the op runs
+  pub during_over : (d : ℤ) → d ≡ int_max (sum_read l.offset e.rise) (pos 0) → nat_abs (to_z w64 (of_z w64 d)) ≡ at_least_zero (l.offset +ℤ e.rise)
+  during_over d is =
+      let same : sum_read l.offset e.rise ≡ l.offset +ℤ e.rise = omega (arith, ints) in
+      rw (is, same) (raised_read (l.offset +ℤ e.rise) (omega (arith, ints)))
 
 -- one op moves the bound by 65,536
 pub over_small : (l : Level) (e : Effect) (b : ℕ) → Small l b → SmallEffect e → Small (level_over l e) (b + 65536)
-over_small l e b s t =
-    record {
-      offset = omega (arith, sum_near l.offset e.shift);
-      peak = omega (arith, sum_near l.offset e.rise, at_least_zero_near (l.offset +ℤ e.rise));
-    }
+over_small l e b s t = record { offset = omega (arith, ints); peak = grind (arith, ints) }

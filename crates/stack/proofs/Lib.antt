@@ -1,11 +1,6 @@
-pub mod SignedLaws
-pub mod DistanceLaws
 pub mod LevelLaws
-pub mod HeightLaws
 pub mod BoundLaws
 pub mod StackLaws
 pub mod RowLaws
 pub mod BlockLaws
 pub mod StepLaws
-pub mod ChunkLaws
-pub mod EntryLaws

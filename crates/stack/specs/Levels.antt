@@ -1,22 +1,18 @@
 -- The level of the operand stack along a row, what an op does to it, the height of a row, and the bounds within which both stay.
-use Rattle.std.specs.Prelude.{Bool, List, [], ℕ, ◌+◌, ◌≤◌, max, ℤ, nat_abs, ◌+ℤ◌}
+use Rattle.std.specs.Prelude.{Bool, List, [], ℕ, ◌+◌, ◌≤◌, Option, Some, None, max, ℤ, nat_abs, ◌+ℤ◌}
 use Rattle.rules.specs.Form.{Chunk}
-use Rattle.rules.specs.Reading.{constants_of}
 use Rattle.rules.specs.Stack as R
 use Rattle.stack.specs.declared.level.Effect.{Effect}
 use Rattle.stack.specs.declared.level.Level.{Level}
-use Rattle.stack.specs.declared.height.Delta.{Delta}
-use Rattle.stack.specs.declared.height.Delta.TheVariants.{Offset, Ends}
 use Rattle.stack.specs.declared.height.Height.{Height}
 
--- a chunk of whose parts the walk reads these
-abbrev pub chunk_of : ℕ → List ℕ → List ℕ → Chunk
-chunk_of locals constants ops =
-    record { locals = locals; type = 0; constants = constants_of constants; ops = ops; extras = [] }
+-- a chunk whose effects need its ops alone
+abbrev pub of_ops : List ℕ → Chunk
+of_ops ops = record { locals = 0; type = 0; constants = []; ops = ops; extras = [] }
 
 -- the effect of the op at i
 abbrev pub effect_at : List ℕ → List ℕ → ℕ → Effect
-effect_at ops callees i = record { rise = R.rise_of (chunk_of 0 [] ops) callees i; shift = R.move_of (chunk_of 0 [] ops) i }
+effect_at ops callees i = record { rise = R.rise_of (of_ops ops) callees i; shift = R.move_of (of_ops ops) i }
 
 -- the level behind an op
 abbrev pub level_over : Level → Effect → Level
@@ -35,9 +31,9 @@ abbrev pub marked_as : Level → Bool → Level
 marked_as l broken = record { offset = l.offset; peak = l.peak; broken = broken }
 
 -- what a delta and a height stand for in document 01
-abbrev pub delta_of : Delta → R.Delta
-delta_of (Offset x) = R.offset x
-delta_of Ends = R.ends
+abbrev pub delta_of : Option ℤ → R.Delta
+delta_of (Some x) = R.offset x
+delta_of None = R.ends
 
 abbrev pub height_of : Height → R.Height
 height_of h = R.height h.peak.0 (delta_of h.delta) h.broken

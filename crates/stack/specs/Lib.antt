@@ -1,4 +1,3 @@
 pub mod Levels
 pub mod Steps
 pub mod Answers
-pub mod Entry

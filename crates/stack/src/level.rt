@@ -1,43 +1,40 @@
 // What an op does to the operand stack, and the level of the stack along a row.
-ghost use Rattle.std.specs.Prelude.{◌≡◌, ◌<◌, ◌≤◌, max, nat_abs, length, get_or};
+ghost use Rattle.std.specs.Prelude.{◌≡◌, ◌<◌, ◌≤◌, nat_abs, length};
 ghost use Rattle.rules.specs.Limits.{most_slots};
 ghost use Rattle.rules.specs.Stack.{call_rise};
 ghost use Rattle.stack.specs.Levels.{effect_at, level_over, raised_to, marked_as, Small, SmallEffect};
 
+use words::fields;
+use words::fields::is;
 use words::figures::{stack_growth, stack_shrink};
-use words::units::{Slots, StackBytes, slots_in};
+use words::kinds::Kind;
+use words::units::{Slots, StackBytes};
 use words::values::number_at;
-use words::{fields, kinds};
 
 // An op's rise above the offset while it runs, and what it moves the offset by.
-#[derive(Drop)]
+#[derive(Clone, Copy, Debug, PartialEq, Eq)]
 pub struct Effect {
     pub rise: i64,
     pub shift: i64,
 }
 
 // The offset since a row's start, the peak so far, and whether a break out of the loop around the row was met.
-#[derive(Clone, Copy)]
+#[derive(Clone, Copy, Debug, PartialEq, Eq)]
 pub struct Level {
     pub offset: i64,
     pub peak: Slots,
     pub broken: bool,
 }
 
-// The bytes of a callee, 0 past the list's end.
-fn bytes_at(callees: &[u32], k: usize) -> StackBytes
-    ensures { result.0 ≡ get_or callees.now k 0 }
-{
-    StackBytes(number_at(callees, k))
-}
-
-// A Call's rise: the callee's slots less the arguments, at least 1.
+// A Call's rise: the callee's slots less the arguments, at least 1. The bytes of a callee are 0 past the list's end.
 fn call_rise(callees: &[u32], w: u32) -> i64
-    ensures { (result ≡ call_rise callees.now w) × (nat_abs result ≤ most_slots) }
+    ensures rise { result ≡ call_rise callees.now w }
+    ensures small { nat_abs result ≤ most_slots }
 {
-    let slots = slots_in(bytes_at(callees, (w % fields::B_UNIT) as usize));
-    let rise = (slots.0 as i64) - ((w / fields::B_UNIT % fields::B_VALUES) as i64);
-    if rise < 1 { 1 } else { rise }
+    let bytes = StackBytes(number_at(callees, (w % fields::B_UNIT) as usize));
+    let slots = Slots::from(bytes);
+    let arguments = w / fields::B_UNIT % fields::B_VALUES;
+    (slots.0 as i64 - arguments as i64).max(1)
 }
 
 // The effect of the op at i, callee bytes taken from the lent list.
@@ -48,16 +45,12 @@ pub fn op_effect(ops: &[u32], callees: &[u32], i: usize) -> Effect
     let w = ops[i];
     let growth = stack_growth(w) as i64;
     let shift = growth - (stack_shrink(w) as i64);
-    if w / fields::KIND_UNIT == kinds::CALL {
-        return Effect {
-            rise: call_rise(callees, w),
-            shift,
-        };
-    }
-    Effect {
-        rise: growth,
-        shift,
-    }
+    let rise = if is(w, Kind::Call) {
+        call_rise(callees, w)
+    } else {
+        growth
+    };
+    Effect { rise, shift }
 }
 
 // The level behind an op: the peak counts its rise, the offset its shift.
@@ -65,41 +58,21 @@ pub fn level_over(l: Level, e: Effect) -> Level
     requires { Small l 1073741824 × SmallEffect e }
     ensures { result ≡ level_over l e }
 {
-    let during = l.offset + e.rise;
-    let offset = l.offset + e.shift;
-    let broken = l.broken;
-    let peak = l.peak.0;
-    if (peak as i64) < during {
-        let higher = during as u32;
-        return Level {
-            offset,
-            peak: Slots(higher),
-            broken,
-        };
-    }
+    let during = Slots((l.offset + e.rise).max(0) as u32);
     Level {
-        offset,
-        peak: Slots(peak),
-        broken,
+        offset: l.offset + e.shift,
+        peak: l.peak.max(during),
+        broken: l.broken,
     }
-}
-
-// The greater of two peaks.
-pub fn greater_peak(a: Slots, b: Slots) -> Slots
-    ensures { result.0 ≡ max a.0 b.0 }
-{
-    if a.0 < b.0 { b } else { a }
 }
 
 // A level with its peak raised to another, if that is greater.
 pub fn raised(l: Level, peak: Slots) -> Level
     ensures { result ≡ raised_to l peak.0 }
 {
-    let before = l.peak;
     Level {
-        offset: l.offset,
-        peak: greater_peak(before, peak),
-        broken: l.broken,
+        peak: l.peak.max(peak),
+        ..l
     }
 }
 
@@ -107,10 +80,5 @@ pub fn raised(l: Level, peak: Slots) -> Level
 pub fn marked(l: Level, broken: bool) -> Level
     ensures { result ≡ marked_as l broken }
 {
-    let peak = l.peak;
-    Level {
-        offset: l.offset,
-        peak,
-        broken,
-    }
+    Level { broken, ..l }
 }

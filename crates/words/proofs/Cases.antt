@@ -10,13 +10,16 @@ use lib.Seq.{get_or-set_same, get_or-set_other}
 use Rattle.rules.specs.Outcome.{Result, ok, no}
 
 module _ {P : Type 0} where
+  -- a number is another, or it is not
   pub split : (k n : ℕ) → (k ≡ n → P) → ((k ≡ n → ⊥) → P) → P
   split k n f g = elim (ℕ_discrete k n) [ Dec.yes e ↦ f e | Dec.no o ↦ g o ]
 
+  -- a test is true, or it is false
   pub decide : (b : Bool) → (b ≡ true → P) → (b ≡ false → P) → P
   decide true f g = f refl
   decide false f g = g refl
 
+  -- a result is a value, or a refusal
   pub result : {A : Type 0} (r : Result A) → ((a : A) → r ≡ ok a → P) → ((n p : ℕ) → r ≡ no n p → P) → P
   result (ok a) f g = f a refl
   result (no n p) f g = g n p refl

@@ -1,14 +1,14 @@
--- Laws of `figures_of`: by kind, b and a; the row of a kind; none over kind 65; those of kinds 64 and 65; and what of Trap's does not depend on its code.
+-- Laws of `figures_of`: by kind, b and a; the row of a kind; none over kind 65; and that Trap's growth does not depend on its code.
 -- Assumes nothing.
-use mathlib.Core.Path.{◌≡◌, refl, ◌∙◌}
+use mathlib.Core.Path.{◌≡◌, refl}
 use mathlib.Core.Bool.{Bool, true, false, cond, ◌&&◌, and-false, and-eq-true_iff}
 use mathlib.Core.List.{List, [], ◌∷◌}
 use Prim.Native.Nat.{ℕ, ◌+◌, ◌*◌, ◌≤◌, ◌<◌}
 use native.Mathlib.Omega.{arith}
-use borrow.Author.Tests.{leb-true, le-leb, lt-leb, ne_eqb}
+use borrow.Author.Tests.{leb-true, lt-leb, ne_eqb}
 use lib.Dec.{eqb, leb}
 use Rattle.words.proofs.Cases.{split}
-use Rattle.rules.specs.Ops.{Group, Figures, word, kind, field_b, table, figures, between, in_groups, index_figures, trap_figures, native_figures, figures_of}
+use Rattle.rules.specs.Ops.{Group, Figures, word, kind, table, figures, between, in_groups, index_figures, trap_figures, native_figures, figures_of}
 
 -- `figures_of w` is, by its definition, `figures_by (kind w) (field_b w) (field_a w)`: so a test can compute it at each kind, with b and a open.
 abbrev pub figures_by : ℕ → ℕ → ℕ → Figures
@@ -29,6 +29,7 @@ abbrev under : ℕ → List Group → Bool
 under top [] = true
 under top (g ∷ gs) = leb g.last top && under top gs
 
+-- a kind over every group has no figures
 none_over : (top : ℕ) (gs : List Group) → under top gs ≡ true → (k : ℕ) → top < k → in_groups gs k ≡ figures 0 0 0
 unfolding in_groups
 none_over top [] t k h = refl
@@ -36,20 +37,13 @@ none_over top (g ∷ gs) t k h =
     let a = (and-eq-true_iff (leb g.last top) (under top gs)).0 t in
     simp (lt-leb k g.last (omega (arith, leb-true g.last top a.0)), and-false) (none_over top gs a.1 k h)
 
--- over 63 no rule but that of 64 and 65 reads a or b
-high : (w : ℕ) → 63 < kind w → figures_of w ≡ cond (leb (kind w) 65) (native_figures (field_b w)) (in_groups table (kind w))
-high w h =
-    let ne : (n : ℕ) → n ≤ 63 → eqb (kind w) n ≡ false = λ n l. ne_eqb (kind w) n (λ e. omega arith) in
-    simp (ne 30 (omega arith), ne 34 (omega arith), ne 36 (omega arith), ne 50 (omega arith), ne 58 (omega arith), le-leb 64 (kind w) h)
-
+-- no kind over 65 has a rule or a group
 pub over : (w : ℕ) → 65 < kind w → figures_of w ≡ figures 0 0 0
-over w h = high w (omega arith) ∙ simp (lt-leb (kind w) 65 h) (none_over 65 table refl (kind w) h)
+over w h =
+    let ne : (n : ℕ) → n ≤ 65 → eqb (kind w) n ≡ false = λ n l. ne_eqb (kind w) n (λ e. omega arith) in
+    simp (ne 30 (omega arith), ne 34 (omega arith), ne 36 (omega arith), ne 50 (omega arith), ne 58 (omega arith), lt-leb (kind w) 65 h, and-false)
+    (none_over 65 table refl (kind w) h)
 
-pub natives : (w : ℕ) → 64 ≤ kind w → kind w ≤ 65 → figures_of w ≡ native_figures (field_b w)
-natives w h l = high w h ∙ simp (le-leb (kind w) 65 l)
-
-pub trap_cycles : (a : ℕ) → (a ≡ 8 → ⊥) → (trap_figures a).cycles ≡ 1
-trap_cycles a n = split a 9 (λ e. rw e) (λ m. simp (ne_eqb a 8 n, ne_eqb a 9 m))
-
+-- Trap pushes nothing, whatever its code
 pub trap_growth : (a : ℕ) → (trap_figures a).growth ≡ 0
 trap_growth a = split a 8 (λ e. rw e) (λ n. split a 9 (λ e. rw e) (λ m. simp (ne_eqb a 8 n, ne_eqb a 9 m)))

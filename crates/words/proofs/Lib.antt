@@ -5,6 +5,7 @@ pub mod OpLaws
 pub mod ReaderLaws
 pub mod ValueLaws
 pub mod RunLaws
+pub mod RestLaws
 pub mod PartLaws
 pub mod PlaceLaws
 pub mod LookupLaws

@@ -3,9 +3,9 @@
 use mathlib.Core.Path.{◌≡◌, refl, sym}
 use mathlib.Core.Bool.{true}
 use mathlib.Core.List.{List}
-use Prim.Native.Nat.{ℕ, ◌<◌, ◌≤◌}
+use Prim.Native.Nat.{ℕ, ◌≤◌}
 use native.Mathlib.Omega.{arith}
-use borrow.Author.Tests.{lt-ltb, le-ltb, ltb-true}
+use borrow.Author.Tests.{ltb-true}
 use lib.Dec.{ltb}
 use lib.ListN.{length}
 use Rattle.rules.specs.Outcome.{ok, Outcome, answer, refused, followed_by, in_chunk, demand}
@@ -15,8 +15,10 @@ use Rattle.rules.specs.Order.{chunk_at}
 use Rattle.rules.specs.Sheet.{read_module, read_outcome, chunk_outcome}
 use Rattle.rules.proofs.Answers.{from_answer, from_chunk}
 use Rattle.rules.proofs.ReadingAgrees.{read_words}
+use Rattle.words.specs.Chunks.{chunk_of}
+use Rattle.words.specs.declared.chunk.Chunk as D
 use Rattle.words.specs.declared.parts.Parts.{Parts}
-use Rattle.words.specs.Parts.{parts_at, head_at, chunks_in, PartsOf}
+use Rattle.words.specs.Parts.{parts_at, head_at, chunks_in, part_of, PartsOf}
 use Rattle.words.specs.Lookup.{parts_outcome}
 use Rattle.words.proofs.Cases.{decide}
 use Rattle.words.proofs.PartLaws.{chunk_parts, chunk_fits}
@@ -35,15 +37,9 @@ refused_alike (answer a) f g n k q h e = h a e
 refused_alike (refused m c p) f g n k q h e = cc
 
 -- a refusal of the reader refuses whatever comes behind it
-pub refused_before : {A : Type 0} (ws : List ℕ) (n p : ℕ) (next : List Chunk → Outcome A) → refused n 0 p ≡ read_outcome ws → refused n 0 p ≡ followed_by (read_module ws) next
-refused_before ws n p next e = refused_alike (read_module ws) _ next n 0 p (λ cs f. absurd (let z : ◌≡◌ {A = ℕ} 0 1 = cc in omega arith)) e
-
-module _ (ws : List ℕ) (cs : List Chunk) (reads : read ws ≡ ok cs) (c : ℕ) where
-  pub no_chunk : length cs ≤ c → refused 12 c 0 ≡ parts_outcome ws c
-  no_chunk h = rw (reads, le-ltb c (length cs) h)
-
-  pub has_chunk : c < length cs → answer (parts_at ws (head_at cs c)) ≡ parts_outcome ws c
-  has_chunk h = rw (reads, lt-ltb c (length cs) h)
+pub refused_before : {A : Type 0} {k : ℕ} (ws : List ℕ) (n p : ℕ) (next : List Chunk → Outcome A) → refused n k p ≡ read_outcome ws
+    → refused n k p ≡ followed_by (read_module ws) next
+refused_before {A} {k} ws n p next e = refused_alike (read_module ws) _ next n k p (λ cs f. absurd (let z : ◌≡◌ {A = ℕ} 0 1 = cc in omega arith)) e
 
 -- a lookup that refuses is document 01's refusal, and one that answers gives the parts of document 01's chunk
 pub record Chunked (ws : List ℕ) (c : ℕ) (p : Parts) : Type 0 where
@@ -53,11 +49,13 @@ pub record Chunked (ws : List ℕ) (c : ℕ) (p : Parts) : Type 0 where
   pub fits : ChunkFits chunk
   pub short : length ws ≤ 16384
 
+-- a lookup's refusal is document 01's for the chunk
 pub lookup_refused : (ws : List ℕ) (c n k q : ℕ) → refused n k q ≡ parts_outcome ws c → refused n k q ≡ chunk_outcome ws c
 lookup_refused ws c n k q e =
     refused_alike (read_module ws) _ _ n k q
     (λ cs f. decide (ltb c (length cs)) (λ t. absurd (let g = rw t at f in let z : ◌≡◌ {A = ℕ} 0 1 = cc in omega arith)) (λ t. let g = rw t at f in rw t cc)) e
 
+-- a lookup's parts are those of document 01's chunk
 pub lookup_found : (ws : List ℕ) (c : ℕ) (p : Parts) → answer p ≡ parts_outcome ws c → Chunked ws c p
 lookup_found ws c p e =
     let a = from_answer (read_module ws) _ (sym e) in
@@ -76,3 +74,9 @@ lookup_found ws c p e =
           fits = chunk_fits ws cs r c lt;
           short = (read_words ws cs r).0;
         }
+
+-- a chunk that is made of the parts that a lookup found is document 01's
+pub same_chunk : {ws : List ℕ} {c : ℕ} {p : Parts} (found : Chunked ws c p) (k : D.Chunk) → (k.locals ≡ p.locals) × (k.mode ≡ p.mode)
+    → k.constants.now ≡ part_of p.constants p.ops ws → k.ops.now ≡ part_of p.ops p.extras ws → k.extras.now ≡ part_of p.extras p.end ws → chunk_of k ≡ found.chunk
+same_chunk found k fields constants ops extras =
+    let f = found.parts in rw (fields.0, fields.1, constants, ops, extras, f.locals, f.mode, f.constants, f.ops, f.extras)

@@ -6,6 +6,7 @@ use native.Mathlib.Omega.{arith}
 use lib.ListN.{length, get_or}
 use Rattle.rules.specs.Ops.{op_at}
 
+-- inside the list, the op of a position is the word there
 pub read_op : (ops : List ℕ) (i : ℕ) → i < length ops → op_at ops i ≡ get_or ops i 0
 read_op [] i h = absurd (omega arith)
 read_op (w ∷ ops) zero h = refl

@@ -12,6 +12,7 @@ abbrev every : (ℕ → Bool) → ℕ → Bool
 every f zero = true
 every f (suc n) = f n && every f n
 
+-- so it holds of any of them
 at : (f : ℕ → Bool) (n : ℕ) → every f n ≡ true → (k : ℕ) → k < n → f k ≡ true
 at f zero t k h = absurd (omega arith)
 at f (suc n) t k h =

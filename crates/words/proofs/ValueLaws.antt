@@ -1,17 +1,15 @@
--- The constant and the extra of an index, read from their words, and the signed number of 64 bits.
+-- The constant and the extra of an index, read from their words.
 -- Assumes nothing.
-use mathlib.Core.Path.{◌≡◌, refl, ap, ◌∙◌}
+use mathlib.Core.Path.{◌≡◌, refl}
+use mathlib.Core.Bool.{true, false}
 use mathlib.Core.List.{List, [], ◌∷◌}
-use Prim.Native.Nat.{ℕ, zero, suc, ◌+◌, ◌*◌, ◌-◌, ◌/◌, ◌<◌, ◌≤◌, ◌^◌}
+use Prim.Native.Nat.{ℕ, zero, suc, ◌+◌, ◌*◌, ◌/◌, ◌<◌, ◌≤◌}
 use native.Mathlib.Nat.{mul-suc}
 use native.Mathlib.Numerals.{towards_suc}
 use native.Mathlib.Omega.{arith}
-use borrow.Author.Tests.{eq-eqb, ne_eqb}
-use lib.IntN.{ℤ, pos, negsuc, ◌-ℤ◌}
+use lib.Dec.{eqb}
+use lib.IntN.{ℤ}
 use lib.ListN.{length, get_or}
-use mir.Syntax.{w64}
-use mir.Val.{to_z}
-use mir.ValLaws.{to_z_pos}
 use Rattle.rules.specs.Ops.{kind, field_a}
 use Rattle.rules.specs.Form.{integer, other}
 use Rattle.rules.specs.Reading.{signed_of, constant_of, constants_of, extras_of}
@@ -31,18 +29,21 @@ constant_cases (s ∷ t ∷ u ∷ v ∷ ws) (suc i) =
     let r = constant_cases ws i in
     (λ h. simp (mul-suc, towards_suc) (simp towards_suc at (r.0 (omega arith))), λ h. r.1 (omega arith))
 
+-- behind the last constant there is none
 pub constant_none : (ws : List ℕ) (i : ℕ) → length ws / 4 ≤ i → get_or (constants_of ws) i other ≡ other
 constant_none ws i = (constant_cases ws i).1
 
 -- by what its first word says
 module _ (ws : List ℕ) (i : ℕ) (h : i < length ws / 4) where
-  pub constant_other : (kind (get_or ws (4 * i) 0) ≡ 202 → ⊥) → get_or (constants_of ws) i other ≡ other
-  constant_other g = rw ((constant_cases ws i).0 h, ne_eqb _ 202 g)
+  -- of another kind
+  pub constant_other : eqb (kind (get_or ws (4 * i) 0)) 202 ≡ false → get_or (constants_of ws) i other ≡ other
+  constant_other g = rw ((constant_cases ws i).0 h, g)
 
-  pub constant_integer : kind (get_or ws (4 * i) 0) ≡ 202 → {a b c d : ℕ} {z : ℤ}
+  -- of the kind of integers: the number of its four words
+  pub constant_integer : eqb (kind (get_or ws (4 * i) 0)) 202 ≡ true → {a b c d : ℕ} {z : ℤ}
       → a ≡ field_a (get_or ws (4 * i) 0) → b ≡ field_a (get_or ws (4 * i + 1) 0) → c ≡ field_a (get_or ws (4 * i + 2) 0) → d ≡ field_a (get_or ws (4 * i + 3) 0)
       → z ≡ signed_of (a + 65536 * (b + 65536 * (c + 65536 * d))) → get_or (constants_of ws) i other ≡ integer z
-  constant_integer k ea eb ec ed ez = rw ((constant_cases ws i).0 h, eq-eqb _ 202 k, ez, ea, eb, ec, ed)
+  constant_integer k ea eb ec ed ez = rw ((constant_cases ws i).0 h, k, ez, ea, eb, ec, ed)
 
 -- an extra from its two
 pub extra_read : (ws : List ℕ) (i : ℕ) → i < length ws / 2
@@ -53,17 +54,10 @@ extra_read (s ∷ []) i h = absurd (omega arith)
 extra_read (s ∷ t ∷ ws) zero h = refl
 extra_read (s ∷ t ∷ ws) (suc i) h = simp (mul-suc, towards_suc) (simp towards_suc at (extra_read ws i (omega arith)))
 
+-- behind the last extra there is none
 pub extra_none : (ws : List ℕ) (i : ℕ) → length ws / 2 ≤ i → get_or (extras_of ws) i 0 ≡ 0
 unfolding extras_of
 extra_none [] i h = refl
 extra_none (s ∷ []) i h = refl
 extra_none (s ∷ t ∷ ws) zero h = absurd (omega arith)
 extra_none (s ∷ t ∷ ws) (suc i) h = extra_none ws i (omega arith)
-
-less : (x : ℕ) → negsuc 0 -ℤ pos x ≡ negsuc x
-less zero = refl
-less (suc n) = ap negsuc (omega arith)
-
--- from 2^63 on: -1 less the number that the inverted bits make
-pub minus_one_less : (n : ℕ) → 2 ^ 63 ≤ n → n < 2 ^ 64 → negsuc 0 -ℤ to_z w64 (18446744073709551615 - n) ≡ negsuc (2 ^ 64 - suc n)
-minus_one_less n h k = rw (to_z_pos w64 (18446744073709551615 - n) (omega arith)) (less (18446744073709551615 - n) ∙ ap negsuc (omega arith))

@@ -1,6 +1,9 @@
 pub mod Found
+pub mod Refusals
+pub mod Kinds
 pub mod Reader
 pub mod Parts
+pub mod Chunks
 pub mod Places
 pub mod Lookup
 pub mod Values

@@ -1,15 +1,9 @@
 -- What a lookup's answer stands for in document 01: 1, 2, then "12 no such chunk".
 use Rattle.std.specs.Prelude.{List, ℕ}
-use Rattle.rules.specs.Outcome.{Outcome, answer, refused}
+use Rattle.rules.specs.Outcome.{Outcome}
 use Rattle.rules.specs.Sheet.{looked_up}
 use Rattle.words.specs.Parts.{parts_at, head_at}
 use Rattle.words.specs.declared.parts.Parts.{Parts}
-use Rattle.words.specs.declared.lookup.Lookup.{Lookup}
-use Rattle.words.specs.declared.lookup.Lookup.TheVariants.{At, Refused}
-
-abbrev pub lookup_outcome : Lookup → Outcome Parts
-lookup_outcome (At p) = answer p
-lookup_outcome (Refused n c p) = refused n c p
 
 -- the parts of chunk c
 abbrev pub parts_outcome : List ℕ → ℕ → Outcome Parts

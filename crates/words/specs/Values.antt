@@ -1,8 +1,7 @@
 -- What the code's constants stand for in document 01.
+use Rattle.std.specs.Prelude.{ℤ, Option, Some, None}
 use Rattle.rules.specs.Form.{Constant, integer, other}
-use Rattle.words.specs.declared.values.ConstValue.{ConstValue}
-use Rattle.words.specs.declared.values.ConstValue.TheVariants.{Int, Other}
 
-abbrev pub constant_is : ConstValue → Constant
-constant_is (Int z) = integer z
-constant_is Other = other
+abbrev pub constant_is : Option ℤ → Constant
+constant_is (Some z) = integer z
+constant_is None = other

@@ -2,8 +2,10 @@
 ghost use Rattle.std.specs.Prelude.{◌≡◌, ◌+◌, ◌*◌, ◌<◌};
 ghost use Rattle.rules.specs.Ops.{word, figures_of, trap_figures};
 
-use crate::{fields, kinds};
+use crate::fields;
+use crate::kinds::Kind;
 
+// Here and below k is any kind of op, by its number: `Kind` names only those that the code asks for.
 // The row of a kind for a = 0 and b = 0 is two hexadecimal digits: the cycles, and behind them 2 * growth + shrink. Line i has the rows of the kinds from
 // 8 * i to 8 * i + 7, in this order; the last has those of 64 and 65. It is a `match` and no array: at each use, an array of constants is written to the stack.
 fn row_of(k: u32) -> u32
@@ -29,17 +31,17 @@ pub fn cycles(w: u32) -> u32
     ensures { result ≡ (figures_of w).cycles }
 {
     let k = w / fields::KIND_UNIT;
-    if kinds::CALL_EXTERNAL_NATIVE < k {
+    if k > Kind::CallExternalNative as u32 {
         return 0;
     }
-    if k == kinds::GET_INDEX {
+    if k == Kind::GetIndex as u32 {
         return if w / fields::B_UNIT % fields::B_VALUES == 1 {
             8
         } else {
             2
         };
     }
-    if k == kinds::TRAP {
+    if k == Kind::Trap as u32 {
         return if w % fields::B_UNIT == 8 { 6 } else { 1 };
     }
     row_of(k) / 16
@@ -50,15 +52,15 @@ pub fn stack_growth(w: u32) -> u32
     ensures { result ≡ (figures_of w).growth }
 {
     let k = w / fields::KIND_UNIT;
-    if k == kinds::GET_INDEX {
+    if k == Kind::GetIndex as u32 {
         return if w / fields::B_UNIT % fields::B_VALUES == 1 {
             5
         } else {
             0
         };
     }
-    if kinds::CALL_VERIFIED_NATIVE <= k {
-        if kinds::CALL_EXTERNAL_NATIVE < k {
+    if k >= Kind::CallVerifiedNative as u32 {
+        if k > Kind::CallExternalNative as u32 {
             return 0;
         }
         return if 128 <= w / fields::B_UNIT % fields::B_VALUES {
@@ -75,28 +77,28 @@ pub fn stack_shrink(w: u32) -> u32
     ensures { result ≡ (figures_of w).shrink }
 {
     let k = w / fields::KIND_UNIT;
-    if kinds::CALL_EXTERNAL_NATIVE < k {
+    if k > Kind::CallExternalNative as u32 {
         return 0;
     }
-    if k == kinds::CALL || k == kinds::POP_N || kinds::CALL_VERIFIED_NATIVE <= k {
+    if k == Kind::Call as u32 || k == Kind::PopN as u32 || k >= Kind::CallVerifiedNative as u32 {
         let b = w / fields::B_UNIT % fields::B_VALUES;
-        return if kinds::CALL_VERIFIED_NATIVE <= k {
+        return if k >= Kind::CallVerifiedNative as u32 {
             b % 128
         } else {
             b
         };
     }
-    if k == kinds::NEW_COMPOSITE {
+    if k == Kind::NewComposite as u32 {
         return w % fields::B_UNIT;
     }
-    if k == kinds::GET_INDEX {
+    if k == Kind::GetIndex as u32 {
         return if w / fields::B_UNIT % fields::B_VALUES == 1 {
             0
         } else {
             1
         };
     }
-    if k == kinds::TRAP {
+    if k == Kind::Trap as u32 {
         return trap_shrink(w % fields::B_UNIT);
     }
     row_of(k) % 2

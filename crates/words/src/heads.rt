@@ -7,6 +7,7 @@ ghost use Rattle.words.specs.Places.{PlacedAt};
 
 use crate::limits::CHUNKS;
 use crate::parts::parts_at;
+use arrayvec::ArrayVec;
 
 // The head of one chunk of words that are a module: one pass over the chunks before it.
 pub fn head_of(words: &[u32], c: usize) -> usize
@@ -14,45 +15,38 @@ pub fn head_of(words: &[u32], c: usize) -> usize
     ensures { result ≡ head_at (chunks_in words.now) c }
 {
     let mut at = 1;
-    let mut i = 0;
-    while i < c {
-        let p = parts_at(words, at);
-        at = p.end;
-        i += 1;
+    for _ in 0..c {
+        at = parts_at(words, at).end;
     }
     at
 }
 
-// Where the chunks of a module stand, by index: their heads, ops and extras, and their ends. A module has at most 16,384 words.
-#[derive(Drop)]
-pub struct Places {
-    pub heads: [u16; CHUNKS],
-    pub ops: [u16; CHUNKS],
-    pub extras: [u16; CHUNKS],
-    pub ends: [u16; CHUNKS],
+// Where a chunk stands: its head, ops and extras, and its end. A module has at most 16,384 words.
+#[derive(Clone, Copy, Debug, Default, PartialEq, Eq)]
+pub struct ChunkPlace {
+    pub head: u16,
+    pub ops: u16,
+    pub extras: u16,
+    pub end: u16,
 }
 
-// The places of all chunks of words that are a module of n chunks: each chunk's parts are found once, in one pass in all.
-pub fn chunk_places(words: &[u32], n: usize) -> Places
+// The places of all chunks of words that are a module of n chunks, by index: each chunk's parts are found once, in one pass in all.
+pub fn chunk_places(words: &[u32], n: usize) -> ArrayVec<ChunkPlace, CHUNKS>
     requires { (read words.now ≡ ok (chunks_in words.now)) × (n ≡ length (chunks_in words.now)) }
-    ensures { (k : ℕ) → k < n → PlacedAt words.now result k }
+    ensures count { length result.items ≡ n }
+    ensures placed { (k : ℕ) → k < n → PlacedAt words.now result.items k }
 {
-    let mut places = Places {
-        heads: [0; CHUNKS],
-        ops: [0; CHUNKS],
-        extras: [0; CHUNKS],
-        ends: [0; CHUNKS],
-    };
+    let mut places = ArrayVec::new();
     let mut at = 1;
-    let mut i = 0;
-    while i < n {
+    for _ in 0..n {
         let p = parts_at(words, at);
-        places.heads[i] = at as u16;
-        places.ops[i] = p.ops as u16;
-        places.extras[i] = p.extras as u16;
-        places.ends[i] = p.end as u16;
+        places.push(ChunkPlace {
+            head: at as u16,
+            ops: p.ops as u16,
+            extras: p.extras as u16,
+            end: p.end as u16,
+        });
         at = p.end;
-        i += 1;
     }
     places
 }

@@ -2,9 +2,9 @@
 
 #![tactic(auto)]
 
+pub mod chunk;
 pub mod fields;
 pub mod figures;
-pub mod found;
 pub mod heads;
 pub mod kinds;
 pub mod limits;

@@ -2,10 +2,12 @@
 ghost use Rattle.std.specs.Prelude.{◌≡◌, ◌+◌, ◌-◌, ◌≤◌, ◌<◌, length, drop};
 ghost use Rattle.words.specs.Parts.{run_of, parts_from, parts_at, part_of};
 
-use crate::{fields, kinds};
+use crate::fields;
+use crate::kinds::Kind;
 
 // A chunk's locals and type (`mode`: 0 Func, 1 Reentrant, 2 Stream), and where its constants, ops and extras begin and the chunk ends.
-#[derive(Clone, Copy)]
+// The type stays the number that stands in the word, here and in `Chunk`: one question is asked of it, whether it is that of `Mode::Stream`.
+#[derive(Clone, Copy, Debug, PartialEq, Eq)]
 pub struct Parts {
     pub locals: u32,
     pub mode: u32,
@@ -15,20 +17,16 @@ pub struct Parts {
     pub end: usize,
 }
 
-// Behind the words from `from` on whose kinds are from `low` to `high`.
+// Behind the words from `from` on whose kinds are from `low` to `high`, numbers of kinds, since all between them count.
 fn behind_run(words: &[u32], from: usize, low: u32, high: u32) -> usize
     requires { from ≤ length words.now }
     ensures { result ≡ from + length (run_of low high (drop from words.now)) }
 {
-    let mut i = from;
-    while i < words.len() {
-        let kind = words[i] / fields::KIND_UNIT;
-        if kind < low || high < kind {
-            return i;
-        }
-        i += 1;
-    }
-    i
+    let run = words[from..].iter().take_while(|&&w| {
+        let kind = w / fields::KIND_UNIT;
+        low <= kind && kind <= high
+    });
+    from + run.count()
 }
 
 // The parts of the chunk whose head stands at `at`.
@@ -36,9 +34,14 @@ pub fn parts_at(words: &[u32], at: usize) -> Parts
     requires { at < length words.now }
     ensures { result ≡ parts_at words.now at }
 {
-    let ops = behind_run(words, at + 1, kinds::INTEGER, kinds::OTHER);
-    let extras = behind_run(words, ops, kinds::CONST, kinds::CALL_EXTERNAL_NATIVE);
-    let end = behind_run(words, extras, kinds::EXTRA, kinds::EXTRA);
+    let ops = behind_run(words, at + 1, Kind::Integer as u32, Kind::Other as u32);
+    let extras = behind_run(
+        words,
+        ops,
+        Kind::Const as u32,
+        Kind::CallExternalNative as u32,
+    );
+    let end = behind_run(words, extras, Kind::Extra as u32, Kind::Extra as u32);
     parts_from(words, at, ops, extras, end)
 }
 
@@ -58,7 +61,7 @@ pub fn parts_from(words: &[u32], at: usize, ops: usize, extras: usize, end: usiz
     }
 }
 
-// The constants of a chunk, four words each.
+// The constants of a chunk, four words each. Document 01 names the form of this function and of the next two: each returns a part of the lent slice.
 pub fn constants_of(words: &[u32], p: Parts) -> &[u32]
     requires { (p.constants ≤ p.ops) × (p.ops ≤ length words.now) }
     ensures { result.now ≡ part_of p.constants p.ops words.now }

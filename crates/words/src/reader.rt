@@ -5,23 +5,19 @@ ghost use Rattle.rules.specs.Reading.{before_chunk, in_constants, in_constant, i
 ghost use Rattle.rules.specs.Reading.{chunk_next, constant_next, op_next, extra_next, step, may_end, broken_at};
 ghost use Rattle.rules.specs.Sheet.{read_outcome};
 ghost use Rattle.words.specs.Found.{found_of};
-ghost use Rattle.words.specs.Reader.{reading_outcome, stage_of, next_of, counter};
+ghost use Rattle.words.specs.Refusals.{outcome_of};
+ghost use Rattle.words.specs.Reader.{stage_of, next_of, counter};
 
-use crate::fields::is_op;
-use crate::found::Found;
+use crate::fields;
+use crate::fields::{is, is_op};
+use crate::kinds::{Kind, Mode};
 use crate::limits::{CHUNKS, WORDS};
+use crate::refusals::{Refusal, Refused};
 use crate::whole::{is_constant, is_extra, past_constants, past_extras, past_ops};
-use crate::{fields, kinds, refusals};
 
-// The reader's answer: the number of chunks, or refusal 1 or 2 with its place.
-#[derive(Drop)]
-pub enum Reading {
-    Accepted(u32),
-    Refused { number: u32, place: usize },
-}
-
-// Where the reader stands between two words; the last number is that of the chunks still to come.
-#[derive(Drop)]
+// Where the reader stands between two words; the last number is that of the chunks still to come, the first of `InConstant` the kind of the words of that
+// constant as they are read.
+#[derive(Clone, Copy, Debug, PartialEq, Eq)]
 pub enum Stage {
     BeforeChunk(u32),
     InConstants(u32),
@@ -32,16 +28,10 @@ pub enum Stage {
 }
 
 // A stage, and the position that it stands at.
-#[derive(Drop)]
+#[derive(Clone, Copy, Debug, PartialEq, Eq)]
 pub struct Place {
     pub stage: Stage,
     pub at: usize,
-}
-
-#[derive(Drop)]
-pub enum Next {
-    Goes(Stage),
-    Stuck,
 }
 
 // The chunk count as the head has it.
@@ -51,143 +41,118 @@ const MOST_CHUNKS: u32 = CHUNKS as u32;
 fn is_head(w: u32) -> bool
     ensures { result ≡ is_head w }
 {
-    w / fields::KIND_UNIT == kinds::MODULE
+    is(w, Kind::Module)
         && w / fields::B_UNIT % fields::B_VALUES == 0
         && 1 <= w % fields::B_UNIT
         && w % fields::B_UNIT <= MOST_CHUNKS
 }
 
-// Kind 200, and a type from 0 to 2.
+// Kind 200, and a type from 0 to 2: a word may have any number there, so it is compared as one.
 fn is_chunk(w: u32) -> bool
     ensures { result ≡ is_chunk w }
 {
-    w / fields::KIND_UNIT == kinds::CHUNK && w / fields::B_UNIT % fields::B_VALUES <= 2
+    is(w, Kind::Chunk) && w / fields::B_UNIT % fields::B_VALUES <= Mode::Stream as u32
 }
 
 // A chunk's head, while chunks are to come.
-fn chunk_next(n: u32, w: u32) -> Next
+fn chunk_next(n: u32, w: u32) -> Option<Stage>
     ensures { next_of result ≡ chunk_next n w }
 {
-    if n == 0 {
-        return Next::Stuck;
+    if n == 0 || !is_chunk(w) {
+        return None;
     }
-    if is_chunk(w) {
-        Next::Goes(Stage::InConstants(n - 1))
-    } else {
-        Next::Stuck
-    }
+    Some(Stage::InConstants(n - 1))
 }
 
 // The first word of a constant.
-fn constant_next(n: u32, w: u32) -> Next
+fn constant_next(n: u32, w: u32) -> Option<Stage>
     ensures { next_of result ≡ constant_next n w }
 {
-    if is_constant(kinds::INTEGER, 0, w) {
-        return Next::Goes(Stage::InConstant(kinds::INTEGER, 1, n));
+    if is_constant(Kind::Integer as u32, 0, w) {
+        return Some(Stage::InConstant(Kind::Integer as u32, 1, n));
     }
-    if is_constant(kinds::OTHER, 0, w) {
-        Next::Goes(Stage::InConstant(kinds::OTHER, 1, n))
-    } else {
-        Next::Stuck
+    if is_constant(Kind::Other as u32, 0, w) {
+        return Some(Stage::InConstant(Kind::Other as u32, 1, n));
     }
+    None
 }
 
 // One op more than k.
-fn op_next(k: u32, n: u32, w: u32) -> Next
+fn op_next(k: u32, n: u32, w: u32) -> Option<Stage>
     requires { k < 65536 }
     ensures { next_of result ≡ op_next k n w }
 {
     if is_op(w) {
-        Next::Goes(Stage::InOps(k + 1, n))
+        Some(Stage::InOps(k + 1, n))
     } else {
-        Next::Stuck
+        None
     }
 }
 
 // The low half of an extra, while k ops have none.
-fn extra_next(k: u32, n: u32, w: u32) -> Next
+fn extra_next(k: u32, n: u32, w: u32) -> Option<Stage>
     ensures { next_of result ≡ extra_next k n w }
 {
-    if k == 0 {
-        return Next::Stuck;
+    if k == 0 || !is_extra(0, w) {
+        return None;
     }
-    if is_extra(0, w) {
-        Next::Goes(Stage::InExtra(k - 1, n))
-    } else {
-        Next::Stuck
-    }
+    Some(Stage::InExtra(k - 1, n))
 }
 
 // Among the constants: one more, the first op, or the next chunk.
-fn in_constants(n: u32, w: u32) -> Next
+fn in_constants(n: u32, w: u32) -> Option<Stage>
     ensures { next_of result ≡ step (in_constants n) w }
 {
-    let first = constant_next(n, w);
-    let Next::Stuck = first else {
-        return first;
-    };
-    let second = op_next(0, n, w);
-    let Next::Stuck = second else {
-        return second;
-    };
-    chunk_next(n, w)
+    constant_next(n, w)
+        .or_else(|| op_next(0, n, w))
+        .or_else(|| chunk_next(n, w))
 }
 
-// Inside a constant: its next word.
-fn in_constant(k: u32, b: u32, n: u32, w: u32) -> Next
+// Inside a constant, of which k is the kind of its words as they are read: its next word.
+fn in_constant(k: u32, b: u32, n: u32, w: u32) -> Option<Stage>
     requires { b < 65536 }
     ensures { next_of result ≡ step (in_constant k b n) w }
 {
     if !is_constant(k, b, w) {
-        return Next::Stuck;
+        return None;
     }
     if b == 3 {
-        Next::Goes(Stage::InConstants(n))
+        Some(Stage::InConstants(n))
     } else {
-        Next::Goes(Stage::InConstant(k, b + 1, n))
+        Some(Stage::InConstant(k, b + 1, n))
     }
 }
 
 // Behind k ops: one more, the first extra, or the next chunk.
-fn in_ops(k: u32, n: u32, w: u32) -> Next
+fn in_ops(k: u32, n: u32, w: u32) -> Option<Stage>
     requires { k < 65536 }
     ensures { next_of result ≡ step (in_ops k n) w }
 {
-    let first = op_next(k, n, w);
-    let Next::Stuck = first else {
-        return first;
-    };
-    let second = extra_next(k, n, w);
-    let Next::Stuck = second else {
-        return second;
-    };
-    chunk_next(n, w)
+    op_next(k, n, w)
+        .or_else(|| extra_next(k, n, w))
+        .or_else(|| chunk_next(n, w))
 }
 
 // Among the extras: one more, or the next chunk.
-fn in_extras(k: u32, n: u32, w: u32) -> Next
+fn in_extras(k: u32, n: u32, w: u32) -> Option<Stage>
     ensures { next_of result ≡ step (in_extras k n) w }
 {
-    let first = extra_next(k, n, w);
-    let Next::Stuck = first else {
-        return first;
-    };
-    chunk_next(n, w)
+    extra_next(k, n, w).or_else(|| chunk_next(n, w))
 }
 
 // Behind the low half of an extra: the high half.
-fn in_extra(k: u32, n: u32, w: u32) -> Next
+fn in_extra(k: u32, n: u32, w: u32) -> Option<Stage>
     ensures { next_of result ≡ step (in_extra k n) w }
 {
     if is_extra(1, w) {
-        Next::Goes(Stage::InExtras(k, n))
+        Some(Stage::InExtras(k, n))
     } else {
-        Next::Stuck
+        None
     }
 }
 
-// One word more.
-fn step_on(s: Stage, w: u32) -> Next
+// One word more. Each stage has numbers of its own, so this is a `match` and no table of functions.
+fn step_on(s: Stage, w: u32) -> Option<Stage>
     requires { counter (stage_of s) < 65536 }
     ensures { next_of result ≡ step (stage_of s) w }
 {
@@ -247,54 +212,38 @@ fn may_end(s: Stage) -> bool
 }
 
 // The place at which the form is broken behind a head that announces this many chunks.
-fn broken_at(words: &[u32], chunks: u32) -> Found
+fn broken_at(words: &[u32], chunks: u32) -> Option<usize>
     requires { (1 ≤ length words.now) × (length words.now ≤ most_words) }
     ensures { found_of result ≡ broken_at (before_chunk chunks) (drop 1 words.now) 1 }
 {
     let mut s = Stage::BeforeChunk(chunks);
     let mut i = 1;
+    // The position moves past a whole run of words at once, so no `for` counts it.
     while i < words.len() {
         let next = step_on(s, words[i]);
-        let Next::Goes(t) = next else {
-            return Found::At(i);
+        let Some(t) = next else {
+            return Some(i);
         };
         i += 1;
         let p = run_on(words, i, t);
         s = p.stage;
         i = p.at;
     }
-    if may_end(s) {
-        Found::Nothing
-    } else {
-        Found::At(i)
-    }
+    if may_end(s) { None } else { Some(i) }
 }
 
 // Whether the words are a module: the number of its chunks, or refusal 1 or 2 with its place. One pass: only where constants, ops or extras end are the next
 // few words looked at again.
-pub fn read_module(words: &[u32]) -> Reading
-    ensures { reading_outcome result ≡ read_outcome words.now }
+pub fn read_module(words: &[u32]) -> Result<u32, Refused>
+    ensures { outcome_of (λ n. n) result ≡ read_outcome words.now }
 {
-    let n = words.len();
-    if n == 0 || WORDS < n {
-        return Reading::Refused {
-            number: refusals::BAD_HEAD,
-            place: 0,
-        };
+    if words.is_empty() || WORDS < words.len() || !is_head(words[0]) {
+        return Err(Refusal::BadHead.at(0).in_chunk(0));
     }
-    let head = words[0];
-    if !is_head(head) {
-        return Reading::Refused {
-            number: refusals::BAD_HEAD,
-            place: 0,
-        };
-    }
-    let broken = broken_at(words, head % fields::B_UNIT);
+    let chunks = words[0] % fields::B_UNIT;
+    let broken = broken_at(words, chunks);
     match broken {
-        Found::At(i) => Reading::Refused {
-            number: refusals::BAD_WORD,
-            place: i,
-        },
-        Found::Nothing => Reading::Accepted(head % fields::B_UNIT),
+        Some(i) => Err(Refusal::BadWord.at(i).in_chunk(0)),
+        None => Ok(chunks),
     }
 }

@@ -1,30 +1,87 @@
-// The refusals of documents 01 and 02 by their words.
-pub const BAD_HEAD: u32 = 1;
+// The refusals of documents 01 and 02 by their words, and where they are met.
+ghost use Rattle.std.specs.Prelude.{◌≡◌};
+ghost use Rattle.words.specs.Refusals.{refusal_number};
 
-pub const BAD_WORD: u32 = 2;
+use std::error::Error;
+use std::fmt;
 
-pub const NO_STREAM: u32 = 3;
+// A refusal; its discriminant is the number of the documents.
+#[derive(Clone, Copy, Debug, PartialEq, Eq, Hash)]
+pub enum Refusal {
+    BadHead = 1,
+    BadWord = 2,
+    NoStream = 3,
+    NoReset = 4,
+    Backward = 5,
+    Crossed = 6,
+    TooDeep = 7,
+    OpenText = 8,
+    NoCount = 9,
+    Ring = 10,
+    TooTall = 11,
+    NoSuchChunk = 12,
+    ShortTray = 13,
+    UnfitPart = 14,
+    StrayBreak = 15,
+}
 
-pub const NO_RESET: u32 = 4;
+impl Refusal {
+    // The number of the documents.
+    pub fn number(self) -> u32
+        ensures { result ≡ refusal_number self }
+    {
+        self as u32
+    }
 
-pub const BACKWARD: u32 = 5;
+    // The refusal at a place of a chunk.
+    pub fn at(self, place: usize) -> Fault
+        ensures { result ≡ record { refusal = self; place = place } }
+    {
+        Fault {
+            refusal: self,
+            place,
+        }
+    }
+}
 
-pub const CROSSED: u32 = 6;
+// A refusal inside one chunk: which, and the place that it names.
+#[derive(Clone, Copy, Debug, PartialEq, Eq, Hash)]
+pub struct Fault {
+    pub refusal: Refusal,
+    pub place: usize,
+}
 
-pub const TOO_DEEP: u32 = 7;
+impl Fault {
+    // "Chunk is 0 for 1, 2, 13, else the one meant."
+    pub fn in_chunk(self, chunk: usize) -> Refused
+        ensures { result ≡ record { refusal = self.refusal; chunk = chunk; place = self.place } }
+    {
+        Refused {
+            refusal: self.refusal,
+            chunk,
+            place: self.place,
+        }
+    }
+}
 
-pub const OPEN_TEXT: u32 = 8;
+// A refusal of a whole call: which, and the chunk and the place that it names.
+#[derive(Clone, Copy, Debug, PartialEq, Eq, Hash)]
+pub struct Refused {
+    pub refusal: Refusal,
+    pub chunk: usize,
+    pub place: usize,
+}
 
-pub const NO_COUNT: u32 = 9;
+impl fmt::Display for Refused {
+    fn fmt<W: fmt::Write>(&self, f: &mut fmt::Formatter<W>) -> fmt::Result {
+        write!(
+            f,
+            "refused {} {} {}",
+            self.refusal.number(),
+            self.chunk,
+            self.place
+        )
+    }
+}
 
-pub const RING: u32 = 10;
-
-pub const TOO_TALL: u32 = 11;
-
-pub const NO_SUCH_CHUNK: u32 = 12;
-
-pub const SHORT_TRAY: u32 = 13;
-
-pub const UNFIT_PART: u32 = 14;
-
-pub const STRAY_BREAK: u32 = 15;
+impl Error for Refused {}

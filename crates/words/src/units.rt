@@ -4,14 +4,14 @@ ghost use Rattle.rules.specs.Limits.{most_slots};
 ghost use Rattle.rules.specs.Stack.{bytes_of};
 
 // A number of slots of the operand stack.
-#[derive(Clone, Copy)]
+#[derive(Clone, Copy, Debug, PartialEq, Eq, PartialOrd, Ord, Hash)]
 pub struct Slots(pub u32);
 
 // A number of bytes of the stack.
-#[derive(Clone, Copy)]
+#[derive(Clone, Copy, Debug, PartialEq, Eq, PartialOrd, Ord, Hash)]
 pub struct StackBytes(pub u32);
 
-// The bytes of so many slots, 32 each: the one place where slots become bytes.
+// The bytes of so many slots, 32 each: the one place where slots become bytes. It is no `From`, since it asks that the slots are few.
 pub fn bytes_of(s: Slots) -> StackBytes
     requires { s.0 ≤ most_slots }
     ensures { result.0 ≡ bytes_of s.0 }
@@ -20,8 +20,10 @@ pub fn bytes_of(s: Slots) -> StackBytes
 }
 
 // The whole slots in so many bytes.
-pub fn slots_in(b: StackBytes) -> Slots
-    ensures { result.0 ≡ b.0 / 32 }
-{
-    Slots(b.0 / 32)
+impl From<StackBytes> for Slots {
+    ghost from_gives = { λ b s. s.0 ≡ b.0 / 32 };
+
+    fn from(b: StackBytes) -> Slots {
+        Slots(b.0 / 32)
+    }
 }

@@ -1,17 +1,12 @@
 // What the words of a constant and of an extra say, and the numbers of a list by chunk index.
 ghost use Rattle.std.specs.Prelude.{◌≡◌, ◌%◌, get_or};
 ghost use Rattle.rules.specs.Form.{other};
-ghost use Rattle.rules.specs.Reading.{constants_of, extras_of, extra_at, signed_of};
+ghost use Rattle.rules.specs.Reading.{constants_of, extras_of, extra_at};
 ghost use Rattle.words.specs.Values.{constant_is};
 
-use crate::{fields, kinds};
-
-// A constant: an integer, or any other.
-#[derive(Drop)]
-pub enum ConstValue {
-    Int(i64),
-    Other,
-}
+use crate::fields;
+use crate::fields::is;
+use crate::kinds::Kind;
 
 // A word holds 16 bits of a constant.
 const SIXTEEN_BITS: u64 = 65536;
@@ -23,32 +18,20 @@ fn low(w: u32) -> u64
     (w % fields::B_UNIT) as u64
 }
 
-// Two's complement at 64 bits.
-fn signed_of(n: u64) -> i64
-    ensures { result ≡ signed_of n }
-{
-    if n < 9223372036854775808 {
-        n as i64
-    } else {
-        -1 - ((18446744073709551615 - n) as i64)
-    }
-}
-
-// The constant of an index, four words each; past the end none that is an integer.
-pub fn constant_at(constants: &[u32], i: usize) -> ConstValue
+// The constant of an index, four words each, in two's complement at 64 bits; none where it is no integer, and none past the end.
+pub fn constant_at(constants: &[u32], i: usize) -> Option<i64>
     ensures { constant_is result ≡ get_or (constants_of constants.now) i other }
 {
     if constants.len() / 4 <= i {
-        return ConstValue::Other;
+        return None;
     }
     let at = 4 * i;
-    if constants[at] / fields::KIND_UNIT != kinds::INTEGER {
-        return ConstValue::Other;
+    if !is(constants[at], Kind::Integer) {
+        return None;
     }
     let high = low(constants[at + 2]) + SIXTEEN_BITS * low(constants[at + 3]);
-    ConstValue::Int(signed_of(
-        low(constants[at]) + SIXTEEN_BITS * (low(constants[at + 1]) + SIXTEEN_BITS * high),
-    ))
+    let bits = low(constants[at]) + SIXTEEN_BITS * (low(constants[at + 1]) + SIXTEEN_BITS * high);
+    Some(bits.cast_signed())
 }
 
 // The extra of an op's position, two words each; a missing one is 0.
@@ -66,5 +49,5 @@ pub fn extra_at(extras: &[u32], i: usize) -> u32
 pub fn number_at(numbers: &[u32], k: usize) -> u32
     ensures { result ≡ get_or numbers.now k 0 }
 {
-    if k < numbers.len() { numbers[k] } else { 0 }
+    numbers.get(k).copied().unwrap_or(0)
 }

@@ -17,8 +17,10 @@ use Rattle.rules.proofs.Flags.{both}
 use Rattle.words.proofs.Cases.{decide}
 use Rattle.text.specs.Paste.{pasted}
 use Rattle.text.proofs.PasteLaws.{pasted-one, pasted_first, pasted_twice}
-use Rattle.writer.specs.declared.entry.WriteAnswer.{WriteAnswer}
-use Rattle.writer.specs.Entry.{answer_outcome}
+use Rattle.words.specs.declared.refusals.Refusal.{Refusal}
+use Rattle.words.specs.declared.refusals.Fault.{Fault}
+use Rattle.words.specs.declared.refusals.Refused.{Refused}
+use Rattle.words.specs.Refusals.{refusal_number}
 use Rattle.writer.specs.Size.{filed_words, all_fit, all_words, size_from}
 use Rattle.writer.proofs.SizeLaws.{size_told}
 
@@ -128,7 +130,14 @@ head-put w ws l h =
     let fits : 1 ≤ length l = omega arith in
     rw (pasted-one 0 w l fits) (pasted_twice 0 (w ∷ []) l fits ws) ∙ pasted_first (w ∷ ws) l
 
+-- what a refusal stands for
+abbrev shown : Refused → Outcome ℕ
+shown r = refused (refusal_number r.refusal) r.chunk r.place
+
 -- a refusal as it is answered: the tray stays
-pub refused_is : (r : WriteAnswer) {o : Outcome (List ℕ)} {n : ℕ} (tray : List ℕ) → answer_outcome r ≡ refused n 0 0 → refused n 0 0 ≡ o
-    → (answer_outcome r ≡ how_many o) × (tray ≡ write_tray o tray)
-refused_is r tray told is = (told ∙ ap how_many is, ap (λ (o : Outcome (List ℕ)). write_tray o tray) is)
+pub refused_is : {f : Fault} {r : Refused} {which : Refusal} {o : Outcome (List ℕ)} (tray : List ℕ) → f ≡ record { refusal = which; place = 0 }
+    → r ≡ record { refusal = f.refusal; chunk = 0; place = f.place } → refused (refusal_number which) 0 0 ≡ o
+    → (shown r ≡ how_many o) × (tray ≡ write_tray o tray)
+refused_is tray at chunk is =
+    let place = ap (λ (f : Fault). shown (record { refusal = f.refusal; chunk = 0; place = f.place })) at in
+    (ap shown chunk ∙ place ∙ ap how_many is, ap (λ (o : Outcome (List ℕ)). write_tray o tray) is)

@@ -1,70 +1,55 @@
--- Whether constants, ops and extras fit, from a place of their list on. Assumes nothing.
-use mathlib.Core.Path.{◌≡◌, refl, ap, ◌∙◌}
+-- Whether constants and ops fit, from the first on, and how extras are trimmed, from the last on. Assumes nothing.
+use mathlib.Core.Path.{◌≡◌, refl, sym, ap, ◌∙◌}
 use mathlib.Core.Bool.{Bool, true, false, cond, ◌&&◌, ◌||◌, and-false, and-eq-true_iff}
 use mathlib.Core.List.{List, [], ◌∷◌, ◌++◌}
 use mathlib.Core.Logic.{◌⊎◌, inl, inr, ⊎_elim}
-use Prim.Native.Nat.{ℕ, zero, suc, ◌+◌, ◌-◌, ◌*◌, ◌^◌, ◌<◌, ◌≤◌}
+use Prim.Native.Nat.{ℕ, suc, ◌-◌, ◌^◌, ◌<◌, ◌≤◌}
 use native.Mathlib.Omega.{arith}
-use borrow.Author.Tests.{eqb-true, ltb-true, lt-ltb, le-ltb, le-leb, lt-leb, eq-eqb, ne_eqb}
+use borrow.Author.Tests.{eqb-true, ltb-true, lt-ltb, le-leb, lt-leb, eq-eqb, ne_eqb}
 use lib.Dec.{eqb, leb, ltb}
-use lib.ListN.{length, drop, get_or, take}
-use lib.Seq.{take-suc}
+use lib.ListN.{length, get_or, take}
+use lib.Seq.{take-suc, take_all}
 use Rattle.rules.specs.Ops.{word, between, uses_a, greatest_b, is_op}
-use Rattle.rules.specs.Form.{other}
-use Rattle.rules.specs.Writing.{held_if, held_constant, held_constants, held_ops, trimmed, every, constant_fits, op_fits}
+use Rattle.rules.specs.Form.{Each}
+use Rattle.rules.specs.Writing.{held_if, held_constant, held_constants, held_ops, trimmed, every, constant_fits, op_fits, extra_fits}
 use Rattle.rules.proofs.WordFields.{kind-word, field_a-word, field_b-word}
-use Rattle.rules.proofs.ConstantWords.{bits_signed}
+use Rattle.rules.proofs.Every.{each_every}
+use Rattle.rules.proofs.Trimmed.{each_trimmed}
 use Rattle.words.proofs.Cases.{decide}
 use Rattle.writer.specs.Size.{held_fits, constants_fit}
-use Rattle.writer.proofs.HeldLaws.{three_at, none_left, few-constants, few-ops, fits_first}
-
--- the two forms of a constant, as tests; an integer of two halves has 64 bits
-module _ (t low high : ℕ) where
-  pub integer_form : t ≡ 0 → low < 2 ^ 32 → high < 2 ^ 32 → true ≡ held_fits constant_fits (held_constant t low high)
-  integer_form z l h = rw (eq-eqb t 0 z, lt-ltb _ _ (bits_signed (low + 2 ^ 32 * high) (omega arith)).0)
-
-  pub other_form : (t ≡ 0 → ⊥) → (eqb t 1 && eqb low 0 && eqb high 0) ≡ held_fits constant_fits (held_constant t low high)
-  other_form z = rw (ne_eqb t 0 z) (go (eqb t 1 && eqb low 0 && eqb high 0))
-    where
-      go : (o : Bool) → o ≡ held_fits constant_fits (held_if o other)
-      go true = refl
-      go false = refl
+use Rattle.writer.proofs.HeldLaws.{behind, three_first, few-held, fits_first}
 
 -- a test of three numbers, and of those behind them
-module _ (l : List ℕ) (i : ℕ) (h : i + 3 ≤ length l) where
-  pub constant_at : constants_fit (held_constants (drop i l))
-      ≡ (held_fits constant_fits (held_constant (get_or l i 0) (get_or l (i + 1) 0) (get_or l (i + 2) 0)) && constants_fit (held_constants (drop (i + 3) l)))
+module _ (l : List ℕ) (h : 3 ≤ length l) where
+  pub constant_first : constants_fit (held_constants l)
+      ≡ (held_fits constant_fits (held_constant (get_or l 0 0) (get_or l 1 0) (get_or l 2 0)) && constants_fit (held_constants (behind 3 l)))
   unfolding held_constants
-  constant_at = rw (three_at l i h) (fits_first constant_fits (held_constant (get_or l i 0) (get_or l (i + 1) 0) (get_or l (i + 2) 0)) (held_constants (drop (i + 3) l)))
+  constant_first =
+      ap (λ (l : List ℕ). constants_fit (held_constants l)) (three_first l h)
+      ∙ fits_first constant_fits (held_constant (get_or l 0 0) (get_or l 1 0) (get_or l 2 0)) (held_constants (behind 3 l))
 
-  pub op_at_lem : every op_fits (held_ops (drop i l))
-      ≡ (op_fits (record { kind = get_or l i 0; a = get_or l (i + 1) 0; b = get_or l (i + 2) 0 }) && every op_fits (held_ops (drop (i + 3) l)))
+  pub op_first : every op_fits (held_ops l)
+      ≡ (op_fits (record { kind = get_or l 0 0; a = get_or l 1 0; b = get_or l 2 0 }) && every op_fits (held_ops (behind 3 l)))
   unfolding held_ops every
-  op_at_lem = rw (three_at l i h)
+  op_first = ap (λ (l : List ℕ). every op_fits (held_ops l)) (three_first l h)
 
 -- at the end of a list
-module _ (l : List ℕ) (i : ℕ) (within : i ≤ length l) (few : length l - i < 3) where
-  pub constants-end : constants_fit (held_constants (drop i l)) ≡ eqb i (length l)
+module _ (l : List ℕ) (few : length l < 3) where
+  pub constants-end : constants_fit (held_constants l) ≡ eqb (length l) 0
   unfolding every
-  constants-end = ap constants_fit (few-constants l i few) ∙ go (eqb (length (drop i l)) 0) ∙ none_left l i within
+  constants-end = ap constants_fit (few-held l few).0 ∙ go (eqb (length l) 0)
     where
       go : (b : Bool) → constants_fit (held_if b []) ≡ b
       go true = refl
       go false = refl
 
-  pub ops-end : every op_fits (held_ops (drop i l)) ≡ true
+  pub ops-end : every op_fits (held_ops l) ≡ true
   unfolding every
-  ops-end = ap (every op_fits) (few-ops l i few)
+  ops-end = ap (every op_fits) (few-held l few).1
 
--- a field that is too large makes an op unfit
+-- an op whose fields fit a word, and one that is beyond the table
 module _ (k a b : ℕ) where
-  pub wide_a : 65536 ≤ a → op_fits (record { kind = k; a = a; b = b }) ≡ false
-  wide_a h = rw (le-ltb a 65536 h)
-
-  pub wide_b : 256 ≤ b → op_fits (record { kind = k; a = a; b = b }) ≡ false
-  wide_b h = decide (ltb a 65536) (λ e. rw (e, le-ltb b 256 h)) (λ e. rw e)
-
-  pub op_fits_lem : a < 65536 → b < 256 → op_fits (record { kind = k; a = a; b = b }) ≡ is_op (word k b a)
+  op_fits_lem : a < 65536 → b < 256 → op_fits (record { kind = k; a = a; b = b }) ≡ is_op (word k b a)
   op_fits_lem ha hb = rw (lt-ltb a 65536 ha, lt-ltb b 256 hb)
 
   pub no_op_lem : 65 < k → op_fits (record { kind = k; a = a; b = b }) ≡ false
@@ -131,33 +116,52 @@ module _ (xs : List ℕ) (m n : ℕ) (next : n ≡ suc m) (there : n ≤ length 
   last_of : take n xs ≡ take m xs ++ (get_or xs m 0 ∷ [])
   last_of = ap (λ (m : ℕ). take m xs) next ∙ take-suc xs m 0 (omega arith)
 
-  pub zero_at : get_or xs m 0 ≡ 0 → trimmed (take n xs) ≡ trimmed (take m xs)
+  zero_at : get_or xs m 0 ≡ 0 → trimmed (take n xs) ≡ trimmed (take m xs)
   zero_at e = rw (last_of, e) (zero_goes (take m xs))
 
-  pub last_at : (get_or xs m 0 ≡ 0 → ⊥) → trimmed (take n xs) ≡ take n xs
+  last_at : (get_or xs m 0 ≡ 0 → ⊥) → trimmed (take n xs) ≡ take n xs
   last_at h = rw last_of (last_stays (take m xs) (get_or xs m 0) h)
 
--- four zeros, and eight
-four_zeros : (xs : List ℕ) (m n : ℕ) → n ≡ m + 4 → n ≤ length xs
-    → (eqb (get_or xs m 0) 0 && eqb (get_or xs (m + 1) 0) 0 && eqb (get_or xs (m + 2) 0) 0 && eqb (get_or xs (m + 3) 0) 0) ≡ true
-    → trimmed (take n xs) ≡ trimmed (take m xs)
-four_zeros xs m n e h z =
-    let (((p, q), r), s) = simp and-eq-true_iff at z in
-    zero_at xs (m + 3) n (omega arith) h (eqb-true (get_or xs (m + 3) 0) 0 s)
-    ∙ zero_at xs (m + 2) (m + 3) (omega arith) (omega arith) (eqb-true (get_or xs (m + 2) 0) 0 r)
-    ∙ zero_at xs (m + 1) (m + 2) (omega arith) (omega arith) (eqb-true (get_or xs (m + 1) 0) 0 q)
-    ∙ zero_at xs m (m + 1) (omega arith) (omega arith) (eqb-true (get_or xs m 0) 0 p)
+-- what stands last, and the front before it
+module _ (xs : List ℕ) where
+  abbrev long : ℕ
+  long = length xs
 
-pub eight_zeros : (xs : List ℕ) (n : ℕ) → 8 ≤ n → n ≤ length xs → let m = n - 8 in
-    (eqb (get_or xs m 0) 0 && eqb (get_or xs (m + 1) 0) 0 && eqb (get_or xs (m + 2) 0) 0 && eqb (get_or xs (m + 3) 0) 0) ≡ true
-    → (eqb (get_or xs (m + 4) 0) 0 && eqb (get_or xs (m + 5) 0) 0 && eqb (get_or xs (m + 6) 0) 0 && eqb (get_or xs (m + 7) 0) 0) ≡ true
-    → trimmed (take n xs) ≡ trimmed (take m xs)
-eight_zeros xs n some h p q =
-    let m = n - 8 in
-    let (five, six, seven) : (m + 4 + 1 ≡ m + 5) × (m + 4 + 2 ≡ m + 6) × (m + 4 + 3 ≡ m + 7) = (omega arith, omega arith, omega arith) in
-    four_zeros xs (m + 4) n (omega arith) h (rw (five, six, seven) q) ∙ four_zeros xs m (m + 4) refl (omega arith) p
+  all : take long xs ≡ xs
+  all = take_all long xs (omega arith)
 
-pub none_kept : (xs : List ℕ) (n : ℕ) → n ≤ 0 → trimmed (take n xs) ≡ take n xs
+  pub zero_last : 1 ≤ long → get_or xs (long - 1) 0 ≡ 0 → trimmed xs ≡ trimmed (take (long - 1) xs)
+  zero_last h e = ap trimmed (sym all) ∙ zero_at xs (long - 1) long (omega arith) (omega arith) e
+
+  pub last_kept : 1 ≤ long → (get_or xs (long - 1) 0 ≡ 0 → ⊥) → trimmed xs ≡ xs
+  last_kept h e = ap trimmed (sym all) ∙ last_at xs (long - 1) long (omega arith) (omega arith) e ∙ all
+
+  pub eight_zeros : 8 ≤ long
+      → (eqb (get_or xs (long - 8) 0) 0 && eqb (get_or xs (long - 7) 0) 0 && eqb (get_or xs (long - 6) 0) 0 && eqb (get_or xs (long - 5) 0) 0) ≡ true
+      → (eqb (get_or xs (long - 4) 0) 0 && eqb (get_or xs (long - 3) 0) 0 && eqb (get_or xs (long - 2) 0) 0 && eqb (get_or xs (long - 1) 0) 0) ≡ true
+      → trimmed xs ≡ trimmed (take (long - 8) xs)
+  eight_zeros h p q =
+      let (((s, t), u), v) = simp and-eq-true_iff at p in
+      let (((w, x), y), z) = simp and-eq-true_iff at q in
+      zero_last (omega arith) (eqb-true (get_or xs (long - 1) 0) 0 z)
+      ∙ zero_at xs (long - 2) (long - 1) (omega arith) (omega arith) (eqb-true (get_or xs (long - 2) 0) 0 y)
+      ∙ zero_at xs (long - 3) (long - 2) (omega arith) (omega arith) (eqb-true (get_or xs (long - 3) 0) 0 x)
+      ∙ zero_at xs (long - 4) (long - 3) (omega arith) (omega arith) (eqb-true (get_or xs (long - 4) 0) 0 w)
+      ∙ zero_at xs (long - 5) (long - 4) (omega arith) (omega arith) (eqb-true (get_or xs (long - 5) 0) 0 v)
+      ∙ zero_at xs (long - 6) (long - 5) (omega arith) (omega arith) (eqb-true (get_or xs (long - 6) 0) 0 u)
+      ∙ zero_at xs (long - 7) (long - 6) (omega arith) (omega arith) (eqb-true (get_or xs (long - 7) 0) 0 t)
+      ∙ zero_at xs (long - 8) (long - 7) (omega arith) (omega arith) (eqb-true (get_or xs (long - 8) 0) 0 s)
+
+-- nothing is trimmed to nothing
+pub none_kept : (xs : List ℕ) → length xs < 1 → trimmed xs ≡ xs
 unfolding trimmed
-none_kept xs zero h = refl
-none_kept xs (suc n) h = absurd (omega arith)
+none_kept [] h = refl
+none_kept (x ∷ xs) h = absurd (omega arith)
+
+-- numbers of 32 bits are extras that fit
+pub extras_fit : (xs : List ℕ) → ((i : ℕ) → i < length xs → get_or xs i 0 < 2 ^ 32) → every extra_fits (trimmed xs) ≡ true
+extras_fit xs h = each_every (λ x g. lt-ltb x (2 ^ 32) g) (trimmed xs) (each_trimmed (λ x. x < 2 ^ 32) xs (all xs h))
+  where
+    all : (ys : List ℕ) → ((i : ℕ) → i < length ys → get_or ys i 0 < 2 ^ 32) → Each (λ x. x < 2 ^ 32) ys
+    all [] g = tt
+    all (y ∷ ys) g = (g 0 (omega arith), all ys (λ i l. g (suc i) (omega arith)))

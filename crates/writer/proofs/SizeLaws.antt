@@ -1,26 +1,27 @@
--- How many words a chunk takes, and the chunks from a place on. Assumes nothing.
+-- How many words a chunk takes, and the chunks behind it. Assumes nothing.
 use mathlib.Core.Path.{◌≡◌, refl, sym, ap, ◌∙◌}
 use mathlib.Core.Bool.{Bool, true, false, ◌&&◌, false≢true, and-eq-true_iff}
 use mathlib.Core.List.{List, [], ◌∷◌, flat_map}
-use Prim.Native.Nat.{ℕ, zero, suc, ◌+◌, ◌-◌, ◌*◌, ◌^◌, ◌<◌, ◌≤◌}
+use Prim.Native.Nat.{ℕ, zero, suc, ◌+◌, ◌*◌, ◌/◌, ◌<◌, ◌≤◌}
 use native.Mathlib.Nat.{add_assoc, add-zero}
 use native.Mathlib.Omega.{arith}
 use borrow.Author.Tests.{leb-true, ltb-true, le-leb, lt-leb, lt-ltb}
 use lib.Dec.{leb, eqb}
-use lib.ListN.{length, drop, get_or, take, length-append, length-drop}
+use lib.ListN.{length, drop, length-append, length-drop}
+use lib.Seq.{length-take-le}
 use Rattle.rules.specs.Limits.{b_unit, most_words}
 use Rattle.rules.specs.Outcome.{Found, found, nothing}
-use Rattle.rules.specs.Form.{Constant, integer, other, constant_words, Each}
+use Rattle.rules.specs.Form.{Constant, integer, other, constant_words}
 use Rattle.rules.specs.Writing.{Op, Draft, Held, holds, hold_none, held_if, held_first, held_constant, held_constants, held_ops, held_draft, held, trimmed, op_word, filed, every, op_fits, constant_fits, extra_fits, draft_fits}
 use Rattle.rules.proofs.Mapped.{map-length}
 use Rattle.rules.proofs.Flags.{both}
-use Rattle.rules.proofs.Every.{each_every}
-use Rattle.rules.proofs.Trimmed.{each_trimmed}
 use Rattle.rules.proofs.Written.{chunk-length}
 use Rattle.words.proofs.Cases.{decide}
-use Rattle.writer.specs.declared.size.Head.{Head}
-use Rattle.writer.specs.Size.{held_fits, held_words, constants_fit, constants_words, filed_words, one_fits, one_words, all_fit, all_words, size_if, one_size, size_from, front_of}
-use Rattle.writer.proofs.HeldLaws.{none_left, fits_first, words_first}
+use Rattle.writer.specs.declared.lent.Head.{Head}
+use Rattle.writer.specs.declared.lent.Lent.{Lent}
+use Rattle.writer.specs.Size.{held_fits, held_words, constants_fit, constants_words, filed_words, one_fits, one_words, all_fit, all_words, size_if, one_size, size_from}
+use Rattle.writer.specs.Lent.{Splits, own_of}
+use Rattle.writer.proofs.HeldLaws.{fits_first, words_first}
 
 -- what a chunk that fits says of its parts
 pub parts_fit : (l t : ℕ) (ks : Held (List Constant)) (os : List Op) (xs : List ℕ) → one_fits (held_draft l t ks os xs) ≡ true
@@ -77,34 +78,21 @@ draft_length l t (holds ks) os xs e =
     let d : Draft = record { locals = l; type = t; constants = ks; ops = os; extras = xs } in
     omega (arith, chunk-length (filed d), map-length op_word os)
 
--- numbers of 32 bits are extras that fit
-pub extras_fit : (xs : List ℕ) → ((i : ℕ) → i < length xs → get_or xs i 0 < 2 ^ 32) → every extra_fits (trimmed xs) ≡ true
-extras_fit xs h = each_every (λ x g. lt-ltb x (2 ^ 32) g) (trimmed xs) (each_trimmed (λ x. x < 2 ^ 32) xs (all xs h))
-  where
-    all : (ys : List ℕ) → ((i : ℕ) → i < length ys → get_or ys i 0 < 2 ^ 32) → Each (λ x. x < 2 ^ 32) ys
-    all [] g = tt
-    all (y ∷ ys) g = (g 0 (omega arith), all ys (λ i l. g (suc i) (omega arith)))
+-- a chunk's own are as long as it says, so that one that fits has no more words than this
+module _ {h : Head} {lent own behind : Lent} (s : Splits h lent own behind) where
+  pub own_long : (length own.constants.now ≡ 3 * h.constants) × (length own.ops.now ≡ 3 * h.ops)
+  own_long = (
+    ap length s.constants ∙ length-take-le (3 * h.constants) lent.constants.now s.has_own.0,
+    ap length s.ops ∙ length-take-le (3 * h.ops) lent.ops.now s.has_own.1,
+  )
 
--- a chunk that takes its own has as many in front of it, and is told by them
-module _ (h : Head) (ks os xs : List ℕ) where
-  pub counts : one_fits (front_of h ks os xs) ≡ true → (3 * h.constants ≤ length ks) × (3 * h.ops ≤ length os) × (h.extras ≤ length xs)
-  counts e =
-      decide (leb (3 * h.constants) (length ks) && leb (3 * h.ops) (length os) && leb h.extras (length xs))
-      (λ f. let ((k, o), x) = simp and-eq-true_iff at f in
-      (leb-true (3 * h.constants) (length ks) k, leb-true (3 * h.ops) (length os) o, leb-true h.extras (length xs) x))
-      (λ f. absurd (false≢true (rw f at e)))
-
-  pub front_own : 3 * h.constants ≤ length ks → 3 * h.ops ≤ length os → h.extras ≤ length xs
-      → front_of h ks os xs ≡ held_draft h.locals h.mode (held_constants (take (3 * h.constants) ks)) (held_ops (take (3 * h.ops) os)) (take h.extras xs)
-  front_own k o x = rw (le-leb (3 * h.constants) (length ks) k, le-leb (3 * h.ops) (length os) o, le-leb h.extras (length xs) x)
-
--- the same from places of the lists on
-pub own_at : (h : Head) (ks os xs : List ℕ) (k o x : ℕ) → k ≤ length ks → o ≤ length os → x ≤ length xs
-    → one_fits (front_of h (drop k ks) (drop o os) (drop x xs)) ≡ true
-    → (k + 3 * h.constants ≤ length ks) × (o + 3 * h.ops ≤ length os) × (x + h.extras ≤ length xs)
-own_at h ks os xs k o x hk ho hx e =
-    let n = counts h (drop k ks) (drop o os) (drop x xs) e in
-    (omega (arith, n.0, length-drop k ks), omega (arith, n.1, length-drop o os), omega (arith, n.2, length-drop x xs))
+  pub one_most : one_fits (own_of h own) ≡ true → length (one_words (own_of h own)) ≤ 1 + 4 * h.constants + 3 * h.ops
+  one_most e =
+      let ks = held_constants own.constants.now in
+      let os = held_ops own.ops.now in
+      let xs = own.extras.now in
+      let fit = parts_fit h.locals h.mode ks os xs e in
+      omega (arith, draft_length h.locals h.mode ks os xs fit.2, constants-length own.constants.now h.constants own_long.0 fit.2, ops-length own.ops.now h.ops own_long.1, fit.4)
 
 -- a size that is told, and one that is not
 pub size_told : (b : Bool) (n s : ℕ) → size_if b n ≡ found s → (b ≡ true) × (n ≡ s)
@@ -157,11 +145,10 @@ unfolding every flat_map
 none_size w true h = rw (add-zero w, le-leb w most_words h)
 none_size w false h = refl
 
-pub size_end : (w : ℕ) (chunks ks os xs : List ℕ) (i k o x : ℕ) → i ≤ length chunks → k ≤ length ks → o ≤ length os → x ≤ length xs
-    → length chunks - i < 5 → w ≤ most_words
-    → size_from w (held (drop i chunks) (drop k ks) (drop o os) (drop x xs))
-    ≡ size_if (eqb i (length chunks) && eqb k (length ks) && eqb o (length os) && eqb x (length xs)) w
-size_end w chunks ks os xs i k o x hi hk ho hx few h =
-    let n = length-drop i chunks in
-    rw (few-chunks (drop i chunks) (drop k ks) (drop o os) (drop x xs) (omega arith), none_left chunks i hi, none_left ks k hk, none_left os o ho, none_left xs x hx)
-    (none_size w (eqb i (length chunks) && eqb k (length ks) && eqb o (length os) && eqb x (length xs)) h)
+pub size_end : (w i : ℕ) (chunks over ks os xs : List ℕ) → i ≡ length chunks / 5 → over ≡ drop (length chunks / 5 * 5) chunks → w ≤ most_words
+    → size_from w (held (drop (i * 5) chunks) ks os xs) ≡ size_if (eqb (length over) 0 && eqb (length ks) 0 && eqb (length os) 0 && eqb (length xs) 0) w
+size_end w i chunks over ks os xs at is h =
+    let few : length (drop (length chunks / 5 * 5) chunks) < 5 = omega (arith, length-drop (length chunks / 5 * 5) chunks) in
+    rw (at, is)
+    (ap (size_from w) (few-chunks (drop (length chunks / 5 * 5) chunks) ks os xs few)
+    ∙ none_size w (eqb (length (drop (length chunks / 5 * 5) chunks)) 0 && eqb (length ks) 0 && eqb (length os) 0 && eqb (length xs) 0) h)

@@ -1,2 +1,3 @@
 pub mod Size
-pub mod Entry
+pub mod Lent
+pub mod Fields

@@ -1,12 +1,11 @@
 -- Whether what the lists hold fits, its words, and how many they are.
-use Rattle.std.specs.Prelude.{Bool, true, false, ◌&&◌, ℕ, ◌+◌, ◌/◌, ◌%◌, leb, length, get_or}
+use Rattle.std.specs.Prelude.{Bool, true, false, ◌&&◌, ℕ, ◌+◌, ◌/◌, ◌%◌, leb, length}
 use mathlib.Core.List.{List, [], ◌∷◌, flat_map}
 use Rattle.rules.specs.Limits.{b_unit, most_words}
 use Rattle.rules.specs.Ops.{word}
 use Rattle.rules.specs.Outcome.{Found, found, nothing}
 use Rattle.rules.specs.Form.{Constant, constant_words, chunk_words}
-use Rattle.rules.specs.Writing.{Draft, Held, holds, hold_none, filed, every, constant_fits, draft_fits, held_front}
-use Rattle.writer.specs.declared.size.Head.{Head}
+use Rattle.rules.specs.Writing.{Draft, Held, holds, hold_none, filed, every, constant_fits, draft_fits}
 
 -- a test of what is held, and its words; where nothing is held it fails, and there are none
 module _ {A : Type 0} where
@@ -56,10 +55,3 @@ one_size d = size_if (one_fits d) (length (one_words d))
 -- behind w words
 abbrev pub size_from : ℕ → Held (List Draft) → Found
 size_from w ds = size_if (all_fit ds && leb (w + length (all_words ds)) most_words) (w + length (all_words ds))
-
--- the five numbers at place i of the lent chunks, and what the lists hold of the chunk that has them
-abbrev pub head_at : List ℕ → ℕ → Head
-head_at l i = record { locals = get_or l i 0; mode = get_or l (i + 1) 0; constants = get_or l (i + 2) 0; ops = get_or l (i + 3) 0; extras = get_or l (i + 4) 0 }
-
-abbrev pub front_of : Head → List ℕ → List ℕ → List ℕ → Held Draft
-front_of h ks os xs = held_front h.locals h.mode h.constants h.ops h.extras ks os xs

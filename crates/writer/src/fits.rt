@@ -1,13 +1,13 @@
 // Whether the parts of a chunk, as they are lent, fit their places in the words.
-ghost use Rattle.std.specs.Prelude.{◌≡◌, cond, ◌&&◌, ℕ, ◌≤◌, eqb, length, get_or, take};
-ghost use Rattle.rules.specs.Ops.{uses_a, greatest_b};
-ghost use Rattle.rules.specs.Writing.{trimmed, every, constant_fits, op_fits, held_constant, held_constants, held_ops};
+ghost use Rattle.std.specs.Prelude.{◌≡◌, true, ◌&&◌, ℕ, ◌≤◌, eqb, length, get_or};
+ghost use Rattle.rules.specs.Writing.{trimmed, every, constant_fits, op_fits, extra_fits, held_constant, held_constants, held_ops};
 ghost use Rattle.writer.specs.Size.{held_fits, constants_fit};
+ghost use Rattle.writer.specs.Fields.{fields_of, no_fields};
 
-use crate::lent::{LENT_CONSTANT, LENT_OP};
+use crate::lent::LENT_OP;
+use words::fields;
 use words::fields::is_op;
-use words::kinds::KINDS;
-use words::{fields, kinds};
+use words::kinds::{KINDS, Kind};
 
 // The greatest a of a kind that uses it.
 const MOST_A: u32 = 65535;
@@ -29,21 +29,21 @@ fn is_constant(t: u32, low: u32, high: u32) -> bool
 pub fn constants_fit(constants: &[u32]) -> bool
     ensures { result ≡ constants_fit (held_constants constants.now) }
 {
-    let mut i = 0;
-    while LENT_CONSTANT <= constants.len() - i {
-        if !is_constant(constants[i], constants[i + 1], constants[i + 2]) {
+    let mut rest = constants;
+    while let [t, low, high, behind @ ..] = rest {
+        if !is_constant(*t, *low, *high) {
             return false;
         }
-        i += LENT_CONSTANT;
+        rest = behind;
     }
-    i == constants.len()
+    rest.is_empty()
 }
 
-// An op whose fields fit a word that is an op of the table.
+// An op whose fields fit a word that is an op of the table. Its kind is a number as an editor lends it, which may be of no kind.
 fn op_fits(k: u32, a: u32, b: u32) -> bool
     ensures { result ≡ op_fits (record { kind = k; a = a; b = b }) }
 {
-    if kinds::CALL_EXTERNAL_NATIVE < k {
+    if k > Kind::CallExternalNative as u32 {
         return false;
     }
     if fields::B_UNIT <= a {
@@ -59,72 +59,62 @@ fn op_fits(k: u32, a: u32, b: u32) -> bool
 fn few_ops_fit(ops: &[u32]) -> bool
     ensures { result ≡ every op_fits (held_ops ops.now) }
 {
-    let mut i = 0;
-    while LENT_OP <= ops.len() - i {
-        if !op_fits(ops[i], ops[i + 1], ops[i + 2]) {
+    let mut rest = ops;
+    while let [k, a, b, behind @ ..] = rest {
+        if !op_fits(*k, *a, *b) {
             return false;
         }
-        i += LENT_OP;
+        rest = behind;
     }
     true
 }
 
-// The greatest a of each op kind.
-fn greatest_as() -> [u32; KINDS]
-    ensures { (k : ℕ) → k ≤ 65 → get_or result k 0 ≡ cond (uses_a k) 65535 0 }
+// The greatest fields of an op kind.
+#[derive(Clone, Copy, Debug, Default, PartialEq, Eq)]
+struct Greatest {
+    a: u32,
+    b: u32,
+}
+
+// The greatest fields of each op kind.
+fn greatest_fields() -> [Greatest; KINDS]
+    ensures { (k : ℕ) → k ≤ 65 → get_or result k no_fields ≡ fields_of k }
 {
-    let mut most = [0u32; KINDS];
-    most[kinds::CONST as usize] = MOST_A;
-    most[kinds::GET_LOCAL as usize] = MOST_A;
-    most[kinds::SET_LOCAL as usize] = MOST_A;
-    most[kinds::IF as usize] = MOST_A;
-    most[kinds::ELSE as usize] = MOST_A;
-    most[kinds::LOOP as usize] = MOST_A;
-    most[kinds::END_LOOP as usize] = MOST_A;
-    most[kinds::BREAK as usize] = MOST_A;
-    most[kinds::BREAK_IF as usize] = MOST_A;
-    most[kinds::CALL as usize] = MOST_A;
-    most[kinds::NEW_COMPOSITE as usize] = MOST_A;
-    most[kinds::TRAP as usize] = MOST_A;
-    most[kinds::CALL_VERIFIED_NATIVE as usize] = MOST_A;
-    most[kinds::CALL_EXTERNAL_NATIVE as usize] = MOST_A;
+    let mut most = [Greatest::default(); KINDS];
+    most[Kind::Const as usize].a = MOST_A;
+    most[Kind::GetLocal as usize].a = MOST_A;
+    most[Kind::SetLocal as usize].a = MOST_A;
+    most[Kind::If as usize].a = MOST_A;
+    most[Kind::Else as usize].a = MOST_A;
+    most[Kind::Loop as usize].a = MOST_A;
+    most[Kind::EndLoop as usize].a = MOST_A;
+    most[Kind::Break as usize].a = MOST_A;
+    most[Kind::BreakIf as usize].a = MOST_A;
+    most[Kind::Call as usize] = Greatest { a: MOST_A, b: 255 };
+    most[Kind::NewComposite as usize] = Greatest { a: MOST_A, b: 3 };
+    most[Kind::GetIndex as usize].b = 1;
+    most[Kind::Trap as usize].a = MOST_A;
+    most[Kind::PopN as usize].b = 255;
+    most[Kind::CallVerifiedNative as usize] = Greatest { a: MOST_A, b: 255 };
+    most[Kind::CallExternalNative as usize] = Greatest { a: MOST_A, b: 255 };
     most
 }
 
-// The greatest b of each op kind.
-fn greatest_bs() -> [u32; KINDS]
-    ensures { (k : ℕ) → k ≤ 65 → get_or result k 0 ≡ greatest_b k }
-{
-    let mut most = [0u32; KINDS];
-    most[kinds::CALL as usize] = 255;
-    most[kinds::NEW_COMPOSITE as usize] = 3;
-    most[kinds::GET_INDEX as usize] = 1;
-    most[kinds::POP_N as usize] = 255;
-    most[kinds::CALL_VERIFIED_NATIVE as usize] = 255;
-    most[kinds::CALL_EXTERNAL_NATIVE as usize] = 255;
-    most
-}
-
-// Many lent ops fit: the greatest fields of all kinds are listed once, since that takes as long as looking at some ops by themselves.
+// Many lent ops fit, their kinds any numbers: the greatest fields of all kinds are listed once, since that takes as long as looking at some ops by themselves.
 fn many_ops_fit(ops: &[u32]) -> bool
     ensures { result ≡ every op_fits (held_ops ops.now) }
 {
-    let most_a = greatest_as();
-    let most_b = greatest_bs();
-    let mut i = 0;
-    while LENT_OP <= ops.len() - i {
-        let k = ops[i];
-        if kinds::CALL_EXTERNAL_NATIVE < k {
+    let most = greatest_fields();
+    let mut rest = ops;
+    while let [k, a, b, behind @ ..] = rest {
+        if *k > Kind::CallExternalNative as u32 {
             return false;
         }
-        let kind = k as usize;
-        if most_a[kind] < ops[i + 1] {
+        let greatest = most[*k as usize];
+        if greatest.a < *a || greatest.b < *b {
             return false;
         }
-        if most_b[kind] < ops[i + 2] {
-            return false;
-        }
-        i += LENT_OP;
+        rest = behind;
     }
     true
 }
@@ -146,33 +136,30 @@ fn are_zero(a: u32, b: u32, c: u32, d: u32) -> bool
     (a == 0) & (b == 0) & (c == 0) & (d == 0)
 }
 
-// How many extras are left when those of 0 at the end are dropped, as long as eight of them stand together.
-fn without_eights(extras: &[u32]) -> usize
-    ensures { (result ≤ length extras.now) × (trimmed extras.now ≡ trimmed (take result extras.now)) }
+// The extras without those of 0 at the end, as long as eight of them stand together.
+fn without_eights(extras: &[u32]) -> &[u32]
+    ensures { (length result.now ≤ length extras.now) × (trimmed extras.now ≡ trimmed result.now) }
 {
-    let mut n = extras.len();
-    while 8 <= n {
-        let i = n - 8;
-        let first = are_zero(extras[i], extras[i + 1], extras[i + 2], extras[i + 3]);
-        let second = are_zero(extras[i + 4], extras[i + 5], extras[i + 6], extras[i + 7]);
+    let mut kept = extras;
+    while let [front @ .., s, t, u, v, w, x, y, z] = kept {
+        let first = are_zero(*s, *t, *u, *v);
+        let second = are_zero(*w, *x, *y, *z);
         if !(first & second) {
-            return n;
+            break;
         }
-        n = i;
+        kept = front;
     }
-    n
+    kept
 }
 
-// How many extras are kept when those of 0 at the end are dropped.
-pub fn kept(extras: &[u32]) -> usize
-    ensures { (result ≤ length extras.now) × (trimmed extras.now ≡ take result extras.now) }
+// The extras without those of 0 at the end.
+pub fn trimmed(extras: &[u32]) -> &[u32]
+    ensures kept { result.now ≡ trimmed extras.now }
+    ensures fit { every extra_fits result.now ≡ true }
 {
-    let mut n = without_eights(extras);
-    while 0 < n {
-        if extras[n - 1] != 0 {
-            return n;
-        }
-        n -= 1;
+    let mut kept = without_eights(extras);
+    while let [front @ .., 0] = kept {
+        kept = front;
     }
-    n
+    kept
 }

@@ -4,14 +4,17 @@ ghost use mathlib.Core.List.{map, flat_map};
 ghost use Rattle.rules.specs.Form.{extra_words};
 ghost use Rattle.rules.specs.Writing.{op_word, every, op_fits, held_constants, held_ops, held};
 ghost use Rattle.text.specs.Paste.{pasted, Put};
-ghost use Rattle.writer.specs.Size.{four_words, constants_fit, constants_words, one_fits, one_words, all_fit, all_words, front_of};
+ghost use Rattle.writer.specs.Size.{four_words, constants_fit, constants_words, one_fits, one_words, all_fit, all_words};
+ghost use Rattle.writer.specs.Lent.{own_of};
 
-use crate::fits::kept;
-use crate::lent::{CONSTANT_WORDS, EXTRA_WORDS, LENT_CHUNK, LENT_CONSTANT, LENT_OP};
-use crate::size::{Head, head_at};
-use words::{fields, kinds};
+use crate::fits::trimmed;
+use crate::lent::{CONSTANT_WORDS, EXTRA_WORDS, Head, LENT_CHUNK, LENT_CONSTANT, Lent, split};
+use words::fields;
+use words::kinds::Kind;
 
-// The four words of a constant of that kind, 16 bits each.
+// The tray is lent, by C too, and what lies behind the words is left: so a place goes along with it here, and not a list that grows.
+
+// The four words of a constant of that kind, 16 bits each. The kind is a sum with the number that is lent.
 fn put_constant(kind: u32, low: u32, high: u32, tray: &mut [u32], at: usize)
     requires { (kind ≤ 203) × (at + 4 ≤ length tray.old) }
     ensures { tray.new ≡ pasted at (four_words kind low high) tray.old }
@@ -30,12 +33,9 @@ fn put_constants(constants: &[u32], tray: &mut [u32], at: usize) -> usize
     ensures { Put at (constants_words (held_constants constants.now)) tray.old tray.new result }
 {
     let mut next = at;
-    let mut i = 0;
-    while LENT_CONSTANT <= constants.len() - i {
-        let kind = kinds::INTEGER + constants[i];
-        put_constant(kind, constants[i + 1], constants[i + 2], tray, next);
+    for &[t, low, high] in constants.as_chunks::<LENT_CONSTANT>().0 {
+        put_constant(Kind::Integer as u32 + t, low, high, tray, next);
         next += CONSTANT_WORDS;
-        i += LENT_CONSTANT;
     }
     next
 }
@@ -46,11 +46,11 @@ fn put_ops(ops: &[u32], tray: &mut [u32], at: usize) -> usize
     ensures { Put at (map op_word (held_ops ops.now)) tray.old tray.new result }
 {
     let mut next = at;
-    let mut i = 0;
-    while LENT_OP <= ops.len() - i {
-        tray[next] = ops[i] * fields::KIND_UNIT + ops[i + 2] * fields::B_UNIT + ops[i + 1];
+    let mut rest = ops;
+    while let [k, a, b, behind @ ..] = rest {
+        tray[next] = *k * fields::KIND_UNIT + *b * fields::B_UNIT + *a;
         next += 1;
-        i += LENT_OP;
+        rest = behind;
     }
     next
 }
@@ -60,56 +60,38 @@ fn put_extras(extras: &[u32], tray: &mut [u32], at: usize) -> usize
     requires { at + length (flat_map extra_words extras.now) ≤ length tray.old }
     ensures { Put at (flat_map extra_words extras.now) tray.old tray.new result }
 {
+    let kind = Kind::Extra as u32 * fields::KIND_UNIT;
     let mut next = at;
-    let mut i = 0;
-    while i < extras.len() {
-        let x = extras[i];
-        tray[next] = kinds::EXTRA * fields::KIND_UNIT + x % fields::B_UNIT;
-        tray[next + 1] = kinds::EXTRA * fields::KIND_UNIT + fields::B_UNIT + x / fields::B_UNIT;
+    for x in extras {
+        tray[next] = kind + *x % fields::B_UNIT;
+        tray[next + 1] = kind + fields::B_UNIT + *x / fields::B_UNIT;
         next += EXTRA_WORDS;
-        i += 1;
     }
     next
 }
 
-// The words of a chunk that takes its own from the fronts of the lists, and the place behind them.
-fn put_chunk(
-    h: Head,
-    constants: &[u32],
-    ops: &[u32],
-    extras: &[u32],
-    tray: &mut [u32],
-    at: usize,
-) -> usize
-    requires { (one_fits (front_of h constants.now ops.now extras.now) ≡ true) × (at + length (one_words (front_of h constants.now ops.now extras.now)) ≤ length tray.old) }
-    ensures { Put at (one_words (front_of h constants.now ops.now extras.now)) tray.old tray.new result }
+// The words of a chunk whose own these lists are, from place `at` on, and the place behind them.
+fn put_chunk(h: Head, own: Lent<'_>, tray: &mut [u32], at: usize) -> usize
+    requires { (one_fits (own_of h own) ≡ true) × (at + length (one_words (own_of h own)) ≤ length tray.old) }
+    ensures { Put at (one_words (own_of h own.entry)) tray.old tray.new result }
 {
-    let k = LENT_CONSTANT * h.constants as usize;
-    let o = LENT_OP * h.ops as usize;
-    let x = h.extras as usize;
-    tray[at] = kinds::CHUNK * fields::KIND_UNIT + h.mode * fields::B_UNIT + h.locals;
-    let first = put_constants(&constants[..k], tray, at + 1);
-    let second = put_ops(&ops[..o], tray, first);
-    let n = kept(&extras[..x]);
-    put_extras(&extras[..n], tray, second)
+    tray[at] = Kind::Chunk as u32 * fields::KIND_UNIT + h.mode * fields::B_UNIT + h.locals;
+    let first = put_constants(own.constants, tray, at + 1);
+    let second = put_ops(own.ops, tray, first);
+    put_extras(trimmed(own.extras), tray, second)
 }
 
 // The words of all chunks, behind the module's head.
-pub fn put_chunks(chunks: &[u32], constants: &[u32], ops: &[u32], extras: &[u32], tray: &mut [u32])
-    requires { (all_fit (held chunks.now constants.now ops.now extras.now) ≡ true) × (1 + length (all_words (held chunks.now constants.now ops.now extras.now)) ≤ length tray.old) }
-    ensures { tray.new ≡ pasted 1 (all_words (held chunks.now constants.now ops.now extras.now)) tray.old }
+pub fn put_chunks(chunks: &[u32], lent: Lent<'_>, tray: &mut [u32])
+    requires { (all_fit (held chunks.now lent.constants.now lent.ops.now lent.extras.now) ≡ true) × (1 + length (all_words (held chunks.now lent.constants.now lent.ops.now lent.extras.now)) ≤ length tray.old) }
+    ensures { tray.new ≡ pasted 1 (all_words (held chunks.now lent.entry.constants.now lent.entry.ops.now lent.entry.extras.now)) tray.old }
 {
     let mut at = 1;
-    let mut i = 0;
-    let mut k = 0;
-    let mut o = 0;
-    let mut x = 0;
-    while LENT_CHUNK <= chunks.len() - i {
-        let h = head_at(chunks, i);
-        at = put_chunk(h, &constants[k..], &ops[o..], &extras[x..], tray, at);
-        i += LENT_CHUNK;
-        k += LENT_CONSTANT * h.constants as usize;
-        o += LENT_OP * h.ops as usize;
-        x += h.extras as usize;
+    let mut rest = lent;
+    for &five in chunks.as_chunks::<LENT_CHUNK>().0 {
+        let h = Head::from(five);
+        let (own, behind) = split(rest, h).unwrap();
+        at = put_chunk(h, own, tray, at);
+        rest = behind;
     }
 }

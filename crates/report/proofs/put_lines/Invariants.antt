@@ -1,10 +1,6 @@
--- `put_lines` writes a line a turn: after j turns the first j lines stand there. Assumes nothing.
-use Prim.Native.Nat.{◌-◌}
+-- `put_lines` puts a line a turn: after each turn the lines so far stand there. Assumes nothing.
 use Rattle.report.proofs.LinesLaws.{Written}
 use Rattle.report.proofs.put_lines.Given as goal
 
-abbrev pub invariant-loop-j : goal.invariant-loop-j
-invariant-loop-j l = Written l.order l.numbers l.n l.at l.initial.out l.j l.out l.end
-
-abbrev pub decreases-loop-j : goal.decreases-loop-j
-decreases-loop-j l = l.n - l.j
+abbrev pub invariant-loop-c : goal.invariant-loop-c
+invariant-loop-c g l = Written l.order l.numbers l.initial.out.items l.c-index l.out.items

@@ -1,20 +1,29 @@
--- `put_field` writes the digits of a number and the byte behind them. Assumes nothing.
+-- `put_field` puts the digits of a number and the byte behind them. Assumes nothing.
+use mathlib.Core.Path.{◌≡◌, ap, ◌∙◌}
+use mathlib.Core.List.{append_assoc}
 use native.Mathlib.Omega.{arith}
+use lib.ListN.{length, length-append}
+use Rattle.rules.specs.Text.{decimal}
 use Rattle.text.specs.Field.{field_text}
-use Rattle.text.proofs.PasteLaws.{then}
-use Rattle.text.proofs.FieldLaws.{field_length}
+use Rattle.text.proofs.FieldLaws.{same_decimal, field_length}
+use Rattle.text.proofs.put_field.Given as given
 use Rattle.text.proofs.put_field.Goals as goal
+use Rattle.text.proofs.put_field.Goals.{After-as_bytes}
 
-pub put_digits-next-requires : goal.put_digits-next-requires
-put_digits-next-requires c = omega (arith, field_length c.args.n c.args.end)
+-- what is put first are the digits
+digits : (g : given.Over) (c : After-as_bytes g) → c.as_bytes.result.now ≡ decimal c.args.n
+digits g c = c.as_bytes.ensures.value ∙ c.format.ensures.text ∙ same_decimal c.args.n (omega arith)
 
-pub put-requires : goal.put-requires
-put-requires c = omega (arith, field_length c.args.n c.args.end)
+pub put_bytes-requires : goal.put_bytes-requires
+put_bytes-requires g c =
+    let d = digits g (goal.at.put_bytes-requires g c).After-as_bytes in
+    (omega arith, omega (arith, ap length d, field_length c.args.n c.args.end))
 
-pub returns-clause-written : goal.returns-clause-written
+pub push-requires : goal.push-requires
+push-requires g c =
+    let d = digits g (goal.at.push-requires g c).After-as_bytes in
+    (omega arith, omega (arith, simp length-append at (ap length c.put_bytes.ensures), ap length d, field_length c.args.n c.args.end))
+
+pub returns : goal.returns
 unfolding field_text
-returns-clause-written c = (then _ _ _ _ (omega (arith, field_length c.args.n c.args.end)) (c.put_digits-next.ensures.written, c.put_digits-next.ensures.next) (c.put.ensures.written, c.put.ensures.next)).0
-
-pub returns-clause-next : goal.returns-clause-next
-unfolding field_text
-returns-clause-next c = (then _ _ _ _ (omega (arith, field_length c.args.n c.args.end)) (c.put_digits-next.ensures.written, c.put_digits-next.ensures.next) (c.put.ensures.written, c.put.ensures.next)).1
+returns g c = rw (c.push.ensures.items, c.put_bytes.ensures, digits g (goal.at.returns g c).After-as_bytes, append_assoc)

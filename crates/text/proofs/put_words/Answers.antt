@@ -1,23 +1,30 @@
--- `put_words` writes the bytes of one word after those of the other: after i turns those of the first i words stand there.
--- Assumes nothing.
-use mathlib.Core.Path.{refl, sym}
+-- `put_words` puts the bytes of one word after those of the other: after each turn those of the words so far stand there. Assumes nothing.
+use mathlib.Core.Path.{refl, ap}
+use mathlib.Core.List.{append_assoc, append-nil}
 use native.Mathlib.Omega.{arith}
+use lib.ListN.{length, get_or, length-append}
 use Rattle.rules.specs.Text.{bytes_in}
-use Rattle.text.proofs.PasteLaws.{pasted_none, then}
-use Rattle.text.proofs.WordsLaws.{bytes_before, bytes_more}
+use Rattle.text.proofs.WordsLaws.{bytes_room, more_bytes}
 use Rattle.text.proofs.put_words.Goals as goal
 
-pub loop-i-init : goal.loop-i-init
+pub loop-w-init : goal.loop-w-init
 unfolding bytes_in
-loop-i-init c = (omega arith, refl, (sym (pasted_none _ _), omega arith))
+loop-w-init g c = rw append-nil
 
-pub put_word-next-requires : goal.put_word-next-requires
-put_word-next-requires c = let l = c.loop-i in
-    omega (arith, bytes_before l.i c.args.words.now l.invariant.0)
+pub put_bytes-requires : goal.put_bytes-requires
+put_bytes-requires g c = (
+  omega arith,
+  omega (
+    arith,
+    simp length-append at (ap length c.loop-w.invariant),
+    ap length c.to_le_bytes.ensures,
+    bytes_room c.loop-w.w-index c.args.words.now c.loop-w-test.true,
+  ),
+)
 
-pub loop-i-preserved : goal.loop-i-preserved
-unfolding bytes_in
-loop-i-preserved c = let l = c.loop-i in
+pub loop-w-preserved : goal.loop-w-preserved
+loop-w-preserved g c =
+    let i = c.loop-w.w-index in
     let words = c.args.words.now in
-    let written = bytes_before l.i words l.invariant.0 in
-    (omega arith, omega arith, rw (bytes_more l.i words c.loop-i-test.true) (then _ _ _ _ (omega arith) l.invariant.2 (c.put_word-next.ensures.written, c.put_word-next.ensures.next)))
+    let more = more_bytes i words c.loop-w-test.true (get_or words i 0) (omega (arith, c.type_inv.words i)) refl in
+    rw (c.put_bytes.ensures, c.loop-w.invariant, c.to_le_bytes.ensures, append_assoc, more)

@@ -18,11 +18,11 @@ past c =
 
 pub loop-i-preserved : goal.loop-i-preserved
 loop-i-preserved c = let b = past (goal.at.loop-i-preserved c).Joined-far-before in
-    (omega arith, b.1 ∙ last_step _ _ _ c.if-i-eq0.false (omega arith) (sym c.is_of.ensures ∙ c.if-is_of.false))
+    (omega arith, b.1 ∙ last_step _ _ _ c.if-i-eq0.false (omega arith) (sym c.has_slot.ensures ∙ c.if-has_slot.false))
 
 pub returns-then-i-eq0 : goal.returns-then-i-eq0
 returns-then-i-eq0 c = sym ((past (goal.at.returns-then-i-eq0 c).Joined-far-before).1 ∙ last_none _ _ _ c.if-i-eq0.true)
 
-pub returns-then-is_of : goal.returns-then-is_of
-returns-then-is_of c = let b = past (goal.at.returns-then-is_of c).Joined-far-before in
-    sym (b.1 ∙ last_step _ _ _ c.if-i-eq0.false (omega arith) (sym c.is_of.ensures ∙ c.if-is_of.true))
+pub returns-then-has_slot : goal.returns-then-has_slot
+returns-then-has_slot c = let b = past (goal.at.returns-then-has_slot c).Joined-far-before in
+    sym (b.1 ∙ last_step _ _ _ c.if-i-eq0.false (omega arith) (sym c.has_slot.ensures ∙ c.if-has_slot.true))

@@ -1,17 +1,11 @@
--- `chunk_cycles` answers the figure of the chunk with these parts, or the first of refusals 3 to 9 and 15.
+-- `chunk_cycles` hands on a row of the chunk, and its walk is the chunk's.
 -- Assumes nothing.
-use mathlib.Core.Path.{sym, ap, ◌∙◌}
-use Rattle.rows.specs.Answers.{row_result}
-use Rattle.rows.proofs.PartRows.{row_there}
-use Rattle.cycles.proofs.EntryLaws.{range_told}
+use Rattle.words.specs.Chunks.{chunk_of}
+use Rattle.rows.proofs.RowFitting.{row_found, row_fits}
 use Rattle.cycles.proofs.entry.chunk_cycles.Goals as goal
 
 pub wcet_region-requires : goal.wcet_region-requires
-wcet_region-requires c =
-    let f = c.requires in
-    (row_there f.parts f.short c.ops_of-ops.ensures (sym (ap row_result c.in-Is.is) ∙ c.chunk_row-row.ensures)).fits
+wcet_region-requires c = row_fits (chunk_of c.args.chunk.now) c.in_ok-row.ensures c.args.chunk.now.short
 
 pub returns : goal.returns
-returns c k parts =
-    range_told c.requires.short c.ops_of-ops.ensures k parts c.constants_of.ensures c.extras_of.ensures _
-    (sym (ap row_result c.in-Is.is) ∙ c.chunk_row-row.ensures) c.wcet_region.ensures
+returns c = rw (row_found (chunk_of c.args.chunk.now) c.in_ok-row.ensures) c.wcet_region.ensures

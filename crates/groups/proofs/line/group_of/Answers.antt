@@ -1,38 +1,54 @@
--- `group_of` reads a field a turn: after i of them their numbers stand in front, and the fields behind are left. Assumes nothing.
-use mathlib.Core.Path.{◌≡◌, sym, ap, ◌∙◌}
+-- `group_of` reads a field a turn: after some of them their numbers stand in front, and the fields behind are left. Assumes nothing.
+use mathlib.Core.Path.{◌≡◌, refl, sym, ◌∙◌}
 use native.Mathlib.Omega.{arith}
-use Rattle.rules.specs.Text.{space}
-use Rattle.groups.specs.Line.{number_is}
-use Rattle.groups.proofs.SplitLaws.{end-within}
-use Rattle.groups.proofs.GroupLaws.{read-few, read_broken, read_more, read_many, read_below, read_past, read-group}
+use borrow.Author.Rules.{rules}
+use borrow.Author.Tests.{tests}
+use lib.Dec.{eqb}
+use Rattle.std.proofs.lemmas.Iterator.Splits.{YieldsList-from_slice_split}
+use Rattle.groups.proofs.SplitLaws.{fields_parts}
+use Rattle.groups.proofs.GroupLaws.{read_none, read_few, read_broken, read_more, read_many, read_below, read_past, read_group}
 use Rattle.groups.proofs.line.group_of.Goals as goal
-use Rattle.groups.proofs.line.group_of.Goals.{then-at-line-via-then-at-line, then-at-line-via-else-at-line+then-last-first, then-at-line-via-else-at-line+else-last-first+then-last-gt-CALL_EXTERNAL_NATIVE}
+use Rattle.groups.proofs.line.group_of.Goals.{then-is_some-via-then-is_some, then-is_some-via-else-is_some+then-last-first, then-is_some-via-else-is_some+else-last-first+then-last}
 
-pub slice_bounds-number_of-end : goal.slice_bounds-number_of-end
-slice_bounds-number_of-end c = omega (arith, end-within space _ _ c.args.line.now c.if-line-at.false c.end_of-end.ensures)
+pub loop-number-init : goal.loop-number-init
+loop-number-init c =
+    let line = c.args.line.now in
+    let split = c.split-fields.ensures in
+    read_none line _ refl (rw (fields_parts line)
+    (YieldsList-from_slice_split _ (λ x. eqb x 32) line split.rest split.done split.closure (λ x b q k. search (rules, tests))))
 
-pub returns-then-line-at : goal.returns-then-line-at
-returns-then-line-at c = read-few _ c.loop-i.invariant c.if-line-at.true c.loop-i-test.true
+pub returns-in_err-next : goal.returns-in_err-next
+returns-in_err-next c = rw c.from_residual.ensures (read_few _ c.loop-number.invariant c.loop-number-test.true c.in_err-next.ensures.steps)
 
-pub returns-in_default : goal.returns-in_default
-returns-in_default c = read_broken _ c.loop-i.invariant c.if-line-at.false _ c.end_of-end.ensures
-    (sym c.number_of-number.ensures ∙ ap number_is c.in_default.is)
+pub returns-in_err-number : goal.returns-in_err-number
+returns-in_err-number c =
+    let field = c.in_ok-next in
+    rw c.from_residual-in_err-number.ensures
+    (read_broken _ c.loop-number.invariant field.field-0 c.next.new.self field.ensures.steps (sym c.in_err-number.ensures))
 
-pub loop-i-preserved : goal.loop-i-preserved
-loop-i-preserved c = read_more _ c.loop-i.invariant c.if-line-at.false _ c.end_of-end.ensures _ c.loop-i-test.true
-    (sym c.number_of-number.ensures ∙ ap number_is c.in-Is.is)
+pub loop-number-preserved : goal.loop-number-preserved
+loop-number-preserved c =
+    let field = c.in_ok-next in
+    read_more _ c.loop-number.invariant field.field-0 c.next.new.self field.ensures.steps _ c.loop-number-test.true (sym c.in_ok-number.ensures)
 
-pub returns-then-at-line : goal.returns-then-at-line
-returns-then-at-line c =
-    let l = c.loop-i in
-    let five : l.i ≡ 5 = omega arith in
-    elim c.then-at-line.branch [
-      | then-at-line-via-then-at-line w ↦ read_many _ l.invariant five w.if-at-line.true
-      | then-at-line-via-else-at-line+then-last-first w ↦ read_below _ l.invariant five w.if-at-line.false w.if-last-first.true
-      | then-at-line-via-else-at-line+else-last-first+then-last-gt-CALL_EXTERNAL_NATIVE w ↦ read_past _ l.invariant five w.if-at-line.false w.if-last-first.false w.if-last-gt-CALL_EXTERNAL_NATIVE.true
+pub returns-then-is_some : goal.returns-then-is_some
+returns-then-is_some c =
+    let l = c.loop-number in
+    let n = c.next-2 in
+    let five : l.number-index ≡ 5 = omega arith in
+    let more = sym c.is_some.ensures in
+    elim c.then-is_some.branch [
+      | then-is_some-via-then-is_some w ↦ read_many _ l.invariant five n.result n.new.self n.ensures.steps (more ∙ w.if-is_some.true)
+      | then-is_some-via-else-is_some+then-last-first w ↦
+          read_below _ l.invariant five n.result n.new.self n.ensures.steps (more ∙ w.if-is_some.false) w.if-last-first.true
+      | then-is_some-via-else-is_some+else-last-first+then-last w ↦
+          read_past _ l.invariant five n.result n.new.self n.ensures.steps (more ∙ w.if-is_some.false) w.if-last-first.false w.if-last.true
     ]
 
 pub returns : goal.returns
-returns c = let l = c.loop-i in
-    let five : l.i ≡ 5 = omega arith in
-    read-group _ l.invariant five c.if-at-line.false c.if-last-first.false c.if-last-gt-CALL_EXTERNAL_NATIVE.false
+returns c =
+    let l = c.loop-number in
+    let n = c.next-2 in
+    let five : l.number-index ≡ 5 = omega arith in
+    let none = sym c.is_some.ensures ∙ c.if-is_some.false in
+    read_group _ l.invariant five n.result n.new.self n.ensures.steps none c.if-last-first.false c.if-last.false

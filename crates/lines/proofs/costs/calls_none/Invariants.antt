@@ -2,13 +2,9 @@
 -- Assumes nothing.
 use mathlib.Core.Path.{◌≡◌}
 use mathlib.Core.Bool.{◌&&◌}
-use Prim.Native.Nat.{◌-◌, ◌≤◌}
-use lib.ListN.{length, drop}
+use lib.ListN.{drop}
 use Rattle.lines.specs.Costs.{calls_none}
 use Rattle.lines.proofs.costs.calls_none.Given as goal
 
-abbrev pub invariant-loop-i : goal.invariant-loop-i
-invariant-loop-i l = (l.i ≤ length l.ops) × (calls_none l.ops ≡ (l.none && calls_none (drop l.i l.ops)))
-
-abbrev pub decreases-loop-i : goal.decreases-loop-i
-decreases-loop-i l = length l.ops - l.i
+abbrev pub invariant-loop-w : goal.invariant-loop-w
+invariant-loop-w l = calls_none l.ops ≡ (l.none && calls_none (drop l.w-index l.ops))

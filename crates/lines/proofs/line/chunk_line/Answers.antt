@@ -1,28 +1,33 @@
--- `chunk_line` answers a chunk's line, or the first of refusals 3 to 9 and 11.
+-- `chunk_line` answers a chunk's line, or the first of refusals 3 to 9, 11 and 15.
 -- Assumes nothing.
 use mathlib.Core.Path.{refl}
-use Rattle.rows.proofs.PartRows.{row_there}
-use Rattle.stack.proofs.EntryLaws.{range_fits}
-use Rattle.lines.proofs.LineLaws.{line_told}
+use Rattle.std.proofs.lemmas.Result.{err_from_is_err_and}
+use Rattle.words.specs.Chunks.{chunk_of}
+use Rattle.rows.proofs.RowFitting.{row_fits}
+use Rattle.lines.proofs.LineLaws.{row_told, line_told}
 use Rattle.lines.proofs.line.chunk_line.Goals as goal
 
-pub chunk_costs-costs-requires : goal.chunk_costs-costs-requires
-chunk_costs-costs-requires c = (row_there c.requires.parts c.requires.short c.ops_of-ops.ensures c.in-Is.ensures).fits
+pub returns-in_err-row : goal.returns-in_err-row
+returns-in_err-row c =
+    let p = err_from_is_err_and c.from_residual.result c.from_residual.ensures.1 in
+    rw (p.1, p.2) (row_told (chunk_of c.args.chunk.now) c.args.callees.now c.args.wholes.now c.in_err-row.ensures)
 
-pub returns-in-Refused-costs : goal.returns-in-Refused-costs
-returns-in-Refused-costs c = λ k parts.
-    line_told c.requires c.ops_of-ops.ensures c.args.callees.now c.args.wholes.now k parts c.constants_of-constants.ensures c.extras_of.ensures _ c.in-Is.ensures
-    c.in-Refused-costs.ensures refl
+pub chunk_costs-requires : goal.chunk_costs-requires
+chunk_costs-requires c = row_fits (chunk_of c.args.chunk.now) c.in_ok-row.ensures c.args.chunk.now.short
 
-pub compute_chunk_wcmu-stack-requires : goal.compute_chunk_wcmu-stack-requires
-compute_chunk_wcmu-stack-requires c = range_fits c.requires.parts c.ops_of-ops.ensures c.requires.fits c.requires.short c.in-Is.ensures
+pub returns-in_err-both : goal.returns-in_err-both
+returns-in_err-both c =
+    let p = err_from_is_err_and c.from_residual-in_err-both.result c.from_residual-in_err-both.ensures.1 in
+    rw (p.1, p.2) (line_told (chunk_of c.args.chunk.now) c.args.callees.now c.args.wholes.now c.in_ok-row.ensures c.in_err-both.ensures refl)
 
-pub returns-in-Is-stack : goal.returns-in-Is-stack
-returns-in-Is-stack c = λ k parts.
-    line_told c.requires c.ops_of-ops.ensures c.args.callees.now c.args.wholes.now k parts c.constants_of-constants.ensures c.extras_of.ensures _ c.in-Is.ensures
-    c.in-Are.ensures c.in-Is-stack.ensures
+pub compute_chunk_wcmu-requires : goal.compute_chunk_wcmu-requires
+compute_chunk_wcmu-requires c = row_fits (chunk_of c.args.chunk.now) c.in_ok-row.ensures c.args.chunk.now.short
 
-pub returns-in-Refused-stack : goal.returns-in-Refused-stack
-returns-in-Refused-stack c = λ k parts.
-    line_told c.requires c.ops_of-ops.ensures c.args.callees.now c.args.wholes.now k parts c.constants_of-constants.ensures c.extras_of.ensures _ c.in-Is.ensures
-    c.in-Are.ensures c.in-Refused-stack.ensures
+pub returns-in_err-stack : goal.returns-in_err-stack
+returns-in_err-stack c =
+    let p = err_from_is_err_and c.from_residual-in_err-stack.result c.from_residual-in_err-stack.ensures.1 in
+    rw (p.1, p.2) (line_told (chunk_of c.args.chunk.now) c.args.callees.now c.args.wholes.now c.in_ok-row.ensures c.in_ok-both.ensures c.in_err-stack.ensures)
+
+pub returns : goal.returns
+returns c =
+    line_told (chunk_of c.args.chunk.now) c.args.callees.now c.args.wholes.now c.in_ok-row.ensures c.in_ok-both.ensures c.in_ok-stack.ensures

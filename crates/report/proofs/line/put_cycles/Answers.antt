@@ -1,42 +1,38 @@
--- `put_cycles` writes the cycles and a space, a plus sign between them where the mark is not 0. Assumes nothing.
-use Prim.Native.Nat.{◌+◌, ◌≤◌}
+-- `put_cycles` puts the cycles and a space, a plus sign between them where the mark is not 0. Assumes nothing.
+use mathlib.Core.Path.{ap}
+use mathlib.Core.List.{append_assoc}
 use native.Mathlib.Omega.{arith}
-use lib.ListN.{length}
-use Rattle.text.specs.Field.{field_text}
-use Rattle.text.specs.Paste.{Put}
-use Rattle.text.proofs.PasteLaws.{then}
+use lib.ListN.{length, length-append}
 use Rattle.text.proofs.FieldLaws.{short_field}
 use Rattle.report.proofs.LinesLaws.{cycles_exact, cycles-cut}
 use Rattle.report.proofs.line.put_cycles.Goals as goal
 
 pub put_field-requires : goal.put_field-requires
-put_field-requires c = omega (arith, short_field c.args.cycles 32 (omega arith))
+put_field-requires g c = (omega arith, omega (arith, short_field c.args.cycles 32 (omega arith)))
 
-pub returns-then-mark-eq0 : goal.returns-then-mark-eq0
-returns-then-mark-eq0 c =
-    let a = c.args in
-    let f = c.put_field in
-    let put : Put a.at (field_text a.cycles 32) a.out.now f.new.out f.result = (f.ensures.written, f.ensures.next) in
-    record {
-      written = λ cut is. rw (cycles_exact a.cycles a.mark c.if-mark-eq0.true cut is) at put;
-      short = omega (arith, short_field a.cycles 32 (omega arith), f.ensures.next);
-    }
+pub returns-then-mark-eq0-clause-written : goal.returns-then-mark-eq0-clause-written
+returns-then-mark-eq0-clause-written g c = λ cut is. rw (c.put_field.ensures, cycles_exact c.args.cycles c.args.mark c.if-mark-eq0.true cut is)
 
-pub put_field-next-requires : goal.put_field-next-requires
-put_field-next-requires c = omega (arith, short_field c.args.cycles 43 (omega arith))
+pub returns-then-mark-eq0-clause-short : goal.returns-then-mark-eq0-clause-short
+returns-then-mark-eq0-clause-short g c =
+    omega (arith, short_field c.args.cycles 32 (omega arith), simp length-append at (ap length c.put_field.ensures))
+
+pub put_field-requires-else-mark-eq0 : goal.put_field-requires-else-mark-eq0
+put_field-requires-else-mark-eq0 g c = (omega arith, omega (arith, short_field c.args.cycles 43 (omega arith)))
 
 pub put_bytes-requires : goal.put_bytes-requires
-put_bytes-requires c = omega (arith, short_field c.args.cycles 43 (omega arith), c.put_field-next.ensures.next)
+put_bytes-requires g c =
+    (omega arith, omega (arith, short_field c.args.cycles 43 (omega arith), simp length-append at (ap length c.put_field-else-mark-eq0.ensures)))
 
-pub returns : goal.returns
-returns c =
-    let a = c.args in
-    let f = c.put_field-next in
-    let b = c.put_bytes in
-    let size = short_field a.cycles 43 (omega arith) in
-    let fits : a.at + length (field_text a.cycles 43) ≤ length a.out.now = omega (arith, size) in
-    let put = then a.at (field_text a.cycles 43) _ a.out.now fits (f.ensures.written, f.ensures.next) (b.ensures.written, b.ensures.next) in
-    record {
-      written = λ cut is. rw (cycles-cut a.cycles a.mark c.if-mark-eq0.false cut is) at put;
-      short = omega (arith, size, f.ensures.next, b.ensures.next);
-    }
+pub returns-else-mark-eq0-clause-written : goal.returns-else-mark-eq0-clause-written
+returns-else-mark-eq0-clause-written g c = λ cut is.
+    rw (c.put_bytes.ensures, c.put_field-else-mark-eq0.ensures, append_assoc, cycles-cut c.args.cycles c.args.mark c.if-mark-eq0.false cut is)
+
+pub returns-else-mark-eq0-clause-short : goal.returns-else-mark-eq0-clause-short
+returns-else-mark-eq0-clause-short g c =
+    omega (
+      arith,
+      short_field c.args.cycles 43 (omega arith),
+      simp length-append at (ap length c.put_field-else-mark-eq0.ensures),
+      simp length-append at (ap length c.put_bytes.ensures),
+    )

@@ -1,104 +1,97 @@
--- `row_within` says whether `parse` finds a tree. The loop's invariant: with the blocks open whose ends the array holds, the range is a row exactly
+-- `row_within` says whether `parse` finds a tree. The loop's invariant: with the blocks open whose ends the list has, the range is a row exactly
 -- where what is open can still be one. Assumes nothing.
-use mathlib.Core.Path.{◌≡◌, sym, ◌∙◌}
+use mathlib.Core.Path.{◌≡◌, ◌∙◌}
 use mathlib.Core.Bool.{true, false}
-use Prim.Native.Nat.{◌+◌, ◌<◌, ◌≤◌}
+use mathlib.Core.List.{List, ◌++◌, reverse}
+use mathlib.Core.Logic.{◌↔◌}
+use Prim.Native.Nat.{ℕ, ◌-◌, ◌<◌, ◌≤◌}
 use native.Mathlib.Omega.{arith}
-use borrow.Author.Tests.{eq-eqb, ne_eqb}
 use lib.ListN.{length, get_or}
+use Rattle.std.specs.Prelude.{Option, IsSome, slice_get}
+use Rattle.std.specs.Option.{option_copied, option_to_list}
 use Rattle.rules.specs.Ops.{op_at}
 use Rattle.words.proofs.OpLaws.{read_op}
-use Rattle.rows.proofs.OpenBlocks.{stack, bound_of, finished, crossed_turn, row_there, no_row}
-use Rattle.rows.proofs.BlockArray.{bound_none, bound_some, carried, sizes, plain_next, open_room, open_next}
-use Rattle.rows.proofs.BlockArray.{AtEnd, some_loop, else_next, close_next}
+use Rattle.rows.proofs.OpenBlocks.{bound_of, start, finished, crossed_turn, row_there, no_row}
+use Rattle.rows.proofs.BlockTurns.{Popped, bound_last, sizes, plain_next, open_room, open_next, popped, some_loop, else_next, close_next}
 use Rattle.rows.proofs.check.row_within.Goals as goal
-use Rattle.rows.proofs.check.row_within.Goals.{In-Block, In-Loop, Joined-depth-ne0, then-depth-ne0, else-depth-ne0}
+use Rattle.rows.proofs.check.row_within.Given as given
+use Rattle.rows.proofs.check.row_within.Goals.{Joined-last, in-Some, in-None}
 use Rattle.rows.proofs.check.row_within.Goals.{then-i-bound+in-Plain, then-i-bound+in-Block, then-i-bound+in-Loop}
-use Rattle.rows.proofs.check.row_within.Goals.{else-i-bound+then-ops-i-eq-ELSE, else-i-bound+else-ops-i-eq-ELSE+then-ops-i-eq-END_LOOP}
-use Rattle.rows.proofs.check.row_within.Goals.{else-i-bound+else-ops-i-eq-ELSE+else-ops-i-eq-END_LOOP}
+use Rattle.rows.proofs.check.row_within.Goals.{else-i-bound+then-is, else-i-bound+else-is+then-is-2, else-i-bound+else-is+else-is-2}
 
 -- the bound is the end of the innermost block
-bound-is : (c : Joined-depth-ne0) → c.if-depth-ne0.bound ≡ bound_of c.args.to (stack c.loop-i.ends c.loop-i.depth)
-bound-is c =
-    let l = c.loop-i in
-    elim c.if-depth-ne0.branch [
-      | then-depth-ne0 w ↦ w.bound-is ∙ bound_some c.args.to l.ends l.depth w.if-depth-ne0.true
-      | else-depth-ne0 w ↦ w.bound-is ∙ bound_none c.args.to l.ends l.depth w.if-depth-ne0.false
-    ]
+bound_is : (g : given.Over) (c : Joined-last g) → c.match-last.bound ≡ bound_of c.args.range.to (reverse c.loop-i.ends.items)
+bound_is g c =
+    let ends = c.loop-i.ends.items in
+    let last : option_copied c.last.result ≡ slice_get ends (length ends - 1) = rw c.deref.ensures.0 at c.last.ensures.value in
+    let bound = bound_last c.args.range.to ends last in
+    elim c.match-last.branch [ in-Some w ↦ w.bound-is ∙ (rw w.in-Some.is at bound) | in-None w ↦ w.bound-is ∙ (rw w.in-None.is at bound) ]
 
--- there is room for the end of a block
-block-fits : (c : In-Block) → c.if-depth-ne0.bound ≡ bound_of c.args.to (stack c.loop-i.ends c.loop-i.depth)
-    → (c.in-Block.end < c.args.to) × (c.args.from + (c.loop-i.depth + c.loop-i.depth) + 2 ≤ c.args.to)
-block-fits c is = open_room c.loop-i.invariant is c.if-i-bound.true false _ (sym c.in-Block.is ∙ c.opens_at-opening.ensures)
+-- where a part ends, `pop` takes its end off the list
+at_end : (g : given.Over) (c : Joined-last g) → c.match-last.bound ≤ c.loop-i.i
+    → (rest : List ℕ) (last : Option ℕ) → c.loop-i.ends.items ≡ rest ++ option_to_list last → IsSome last ↔ (0 < length c.loop-i.ends.items)
+    → Popped (op_at c.args.chunk.now.ops.now) c.args.range.from c.args.range.to rest c.loop-i.loops c.loop-i.i (get_or c.args.chunk.now.ops.now c.loop-i.i 0)
+at_end g c h rest last items some =
+    let here = read_op c.args.chunk.now.ops.now c.loop-i.i (omega arith) in
+    popped c.loop-i.invariant _ here (omega (arith, bound_is g c)) c.loop-i-test.true rest last items some
 
-loop-fits : (c : In-Loop) → c.if-depth-ne0.bound ≡ bound_of c.args.to (stack c.loop-i.ends c.loop-i.depth)
-    → (c.in-Loop.end < c.args.to) × (c.args.from + (c.loop-i.depth + c.loop-i.depth) + 2 ≤ c.args.to)
-loop-fits c is = open_room c.loop-i.invariant is c.if-i-bound.true true _ (sym c.in-Loop.is ∙ c.opens_at-opening.ensures)
-
--- where a part ends
-at_end : (c : Joined-depth-ne0) → c.if-depth-ne0.bound ≤ c.loop-i.i
-    → AtEnd (op_at c.args.ops.now) c.args.from c.args.to (length c.args.ends.now) c.loop-i.ends c.loop-i.depth c.loop-i.loops c.loop-i.i (get_or c.args.ops.now c.loop-i.i 0)
-at_end c h = record {
-  state = c.loop-i.invariant;
-  past = omega (arith, bound-is c);
-  left = c.loop-i-test.true;
-  here = read_op c.args.ops.now c.loop-i.i (omega arith);
-}
-
-pub offset_bounds-ends-depth : goal.offset_bounds-ends-depth
-offset_bounds-ends-depth c = omega (arith, sizes c.loop-i.invariant)
-
-pub bounds-ends-depth : goal.bounds-ends-depth
-bounds-ends-depth c = omega (arith, sizes c.loop-i.invariant)
+pub loop-i-init : goal.loop-i-init
+loop-i-init g c = rw c.new-ends.ensures (record { stage = start (op_at c.args.chunk.now.ops.now) c.args.range.from c.args.range.to c.requires.0 })
 
 pub opens_at-opening-requires : goal.opens_at-opening-requires
-opens_at-opening-requires c = omega (arith, sizes c.loop-i.invariant, bound-is (goal.at.opens_at-opening-requires c).Joined-depth-ne0)
+opens_at-opening-requires g c = omega (arith, sizes c.loop-i.invariant, bound_is g (goal.at.opens_at-opening-requires g c).Joined-last)
 
-pub overflow_cast-ends : goal.overflow_cast-ends
-overflow_cast-ends c = omega (arith, block-fits (goal.at.overflow_cast-ends c).In-Block (bound-is (goal.at.overflow_cast-ends c).Joined-depth-ne0))
+pub overflow_cast-end : goal.overflow_cast-end
+overflow_cast-end g c =
+    let b = bound_is g (goal.at.overflow_cast-end g c).Joined-last in
+    omega (arith, c.args.chunk.now.short, open_room c.loop-i.invariant b c.if-i-bound.true false _ c.in-Block.ensures)
 
-pub bounds-ends-depth-in-Block : goal.bounds-ends-depth-in-Block
-bounds-ends-depth-in-Block c = omega (arith, block-fits (goal.at.bounds-ends-depth-in-Block c).In-Block (bound-is (goal.at.bounds-ends-depth-in-Block c).Joined-depth-ne0))
+pub push-requires : goal.push-requires
+push-requires g c =
+    let b = bound_is g (goal.at.push-requires g c).Joined-last in
+    omega (arith, open_room c.loop-i.invariant b c.if-i-bound.true false _ c.in-Block.ensures)
 
-pub overflow_cast-ends-in-Loop : goal.overflow_cast-ends-in-Loop
-overflow_cast-ends-in-Loop c = omega (arith, loop-fits (goal.at.overflow_cast-ends-in-Loop c).In-Loop (bound-is (goal.at.overflow_cast-ends-in-Loop c).Joined-depth-ne0))
+pub overflow_cast-end-in-Loop : goal.overflow_cast-end-in-Loop
+overflow_cast-end-in-Loop g c =
+    let b = bound_is g (goal.at.overflow_cast-end-in-Loop g c).Joined-last in
+    omega (arith, c.args.chunk.now.short, open_room c.loop-i.invariant b c.if-i-bound.true true _ c.in-Loop.ensures)
 
-pub bounds-ends-depth-in-Loop : goal.bounds-ends-depth-in-Loop
-bounds-ends-depth-in-Loop c = omega (arith, loop-fits (goal.at.bounds-ends-depth-in-Loop c).In-Loop (bound-is (goal.at.bounds-ends-depth-in-Loop c).Joined-depth-ne0))
+pub push-requires-in-Loop : goal.push-requires-in-Loop
+push-requires-in-Loop g c =
+    let b = bound_is g (goal.at.push-requires-in-Loop g c).Joined-last in
+    omega (arith, open_room c.loop-i.invariant b c.if-i-bound.true true _ c.in-Loop.ensures)
 
 pub overflow_add-loops : goal.overflow_add-loops
-overflow_add-loops c = omega (arith, loop-fits (goal.at.overflow_add-loops c).In-Loop (bound-is (goal.at.overflow_add-loops c).Joined-depth-ne0), sizes c.loop-i.invariant)
+overflow_add-loops g c = omega (arith, sizes c.loop-i.invariant)
 
 pub returns-in-Crossed : goal.returns-in-Crossed
-returns-in-Crossed c = no_row (op_at c.args.ops.now) c.args.from c.args.to c.requires.0
-    (crossed_turn _ _ _ c.loop-i.invariant.stage (bound-is (goal.at.returns-in-Crossed c).Joined-depth-ne0) c.if-i-bound.true (sym c.in-Crossed.is ∙ c.opens_at-opening.ensures))
-
-pub offset_bounds-ends-depth-then-ops-i-eq-ELSE : goal.offset_bounds-ends-depth-then-ops-i-eq-ELSE
-offset_bounds-ends-depth-then-ops-i-eq-ELSE c = omega (arith, sizes c.loop-i.invariant)
-
-pub bounds-ends-depth-then-ops-i-eq-ELSE : goal.bounds-ends-depth-then-ops-i-eq-ELSE
-bounds-ends-depth-then-ops-i-eq-ELSE c = omega (arith, sizes c.loop-i.invariant)
+returns-in-Crossed g c =
+    let b = bound_is g (goal.at.returns-in-Crossed g c).Joined-last in
+    no_row _ _ _ c.requires.0 (crossed_turn _ _ _ c.loop-i.invariant.stage b c.if-i-bound.true c.in-Crossed.ensures)
 
 pub overflow_sub-loops : goal.overflow_sub-loops
-overflow_sub-loops c = some_loop (at_end (goal.at.overflow_sub-loops c).Joined-depth-ne0 c.if-i-bound.false) c.if-ops-i-eq-END_LOOP.true
+overflow_sub-loops g c =
+    some_loop (at_end g (goal.at.overflow_sub-loops g c).Joined-last c.if-i-bound.false _ _ c.pop.ensures.items c.pop.ensures.variant) c.if-is-2.ensures
 
 pub loop-i-preserved : goal.loop-i-preserved
-loop-i-preserved c =
+loop-i-preserved g c =
     let s = c.loop-i.invariant in
-    let at = (goal.at.loop-i-preserved c).Joined-depth-ne0 in
-    let b = bound-is at in
+    let at = (goal.at.loop-i-preserved g c).Joined-last in
+    let b = bound_is g at in
     elim c.if-i-bound.branch [
-      | then-i-bound+in-Plain w ↦ carried w.ends-is w.depth-is w.loops-is (plain_next s b w.if-i-bound.true (sym w.in-Plain.is ∙ w.opens_at-opening.ensures))
-      | then-i-bound+in-Block w ↦ carried w.ends-is w.depth-is w.loops-is (open_next s b w.if-i-bound.true false _ (sym w.in-Block.is ∙ w.opens_at-opening.ensures))
-      | then-i-bound+in-Loop w ↦ carried w.ends-is w.depth-is w.loops-is (open_next s b w.if-i-bound.true true _ (sym w.in-Loop.is ∙ w.opens_at-opening.ensures))
-      | else-i-bound+then-ops-i-eq-ELSE w ↦ carried w.ends-is w.depth-is w.loops-is (else_next (at_end at w.if-i-bound.false) w.if-ops-i-eq-ELSE.true)
-      | else-i-bound+else-ops-i-eq-ELSE+then-ops-i-eq-END_LOOP w ↦
-          carried w.ends-is w.depth-is w.loops-is
-          (close_next (at_end at w.if-i-bound.false) true (eq-eqb _ 25 w.if-ops-i-eq-END_LOOP.true) w.if-ops-i-eq-ELSE.false)
-      | else-i-bound+else-ops-i-eq-ELSE+else-ops-i-eq-END_LOOP w ↦
-          carried w.ends-is w.depth-is w.loops-is
-          (close_next (at_end at w.if-i-bound.false) false (ne_eqb _ 25 w.if-ops-i-eq-END_LOOP.false) w.if-ops-i-eq-ELSE.false)
+      | then-i-bound+in-Plain w ↦ rw (w.ends-is, w.loops-is) (plain_next s b w.if-i-bound.true w.in-Plain.ensures)
+      | then-i-bound+in-Block w ↦ rw (w.ends-is, w.loops-is, w.push.ensures.items) (open_next s b w.if-i-bound.true false _ w.in-Block.ensures)
+      | then-i-bound+in-Loop w ↦ rw (w.ends-is, w.loops-is, w.push-in-Loop.ensures.items) (open_next s b w.if-i-bound.true true _ w.in-Loop.ensures)
+      | else-i-bound+then-is w ↦
+          let p = at_end g at w.if-i-bound.false _ _ w.pop.ensures.items w.pop.ensures.variant in
+          rw (w.ends-is, w.loops-is, w.push-then-is.ensures.items) (else_next p w.if-is.ensures)
+      | else-i-bound+else-is+then-is-2 w ↦
+          let p = at_end g at w.if-i-bound.false _ _ w.pop.ensures.items w.pop.ensures.variant in
+          rw (w.ends-is, w.loops-is) (close_next p true w.if-is-2.ensures w.if-is.ensures)
+      | else-i-bound+else-is+else-is-2 w ↦
+          let p = at_end g at w.if-i-bound.false _ _ w.pop.ensures.items w.pop.ensures.variant in
+          rw (w.ends-is, w.loops-is) (close_next p false w.if-is-2.ensures w.if-is.ensures)
     ]
 
 pub returns : goal.returns
-returns c = row_there _ _ _ (finished _ _ _ c.loop-i.invariant.stage c.loop-i-test.false)
+returns g c = row_there _ _ _ (finished _ _ _ c.loop-i.invariant.stage c.loop-i-test.false)

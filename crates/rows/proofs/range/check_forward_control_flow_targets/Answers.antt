@@ -1,16 +1,14 @@
 -- `check_forward_control_flow_targets` is `first_backward`: what is left of the list gives the whole. Assumes nothing.
-use mathlib.Core.Path.{refl, sym, ◌∙◌}
-use native.Mathlib.Omega.{arith}
+use mathlib.Core.Path.{sym, ◌∙◌}
 use Rattle.rows.proofs.SearchLaws.{backward_turn, backward_none}
 use Rattle.rows.proofs.range.check_forward_control_flow_targets.Goals as goal
 
 pub returns-then-is_backward : goal.returns-then-is_backward
-returns-then-is_backward c = let n = c.loop-i.invariant in
-    sym (n.2 ∙ backward_turn _ _ _ (omega arith) (sym c.is_backward.ensures ∙ c.if-is_backward.true))
+returns-then-is_backward c =
+    sym (c.loop-i.invariant ∙ backward_turn _ _ _ c.loop-i-test.true (sym c.is_backward.ensures ∙ c.if-is_backward.true))
 
 pub loop-i-preserved : goal.loop-i-preserved
-loop-i-preserved c = let n = c.loop-i.invariant in
-    (refl, omega arith, n.2 ∙ backward_turn _ _ _ (omega arith) (sym c.is_backward.ensures ∙ c.if-is_backward.false))
+loop-i-preserved c = c.loop-i.invariant ∙ backward_turn _ _ _ c.loop-i-test.true (sym c.is_backward.ensures ∙ c.if-is_backward.false)
 
 pub returns : goal.returns
-returns c = sym (c.loop-i.invariant.2 ∙ backward_none _ _ _ (omega arith))
+returns c = sym (c.loop-i.invariant ∙ backward_none _ _ _ c.loop-i-test.false)

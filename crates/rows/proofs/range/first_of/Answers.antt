@@ -1,15 +1,22 @@
--- `first_of` is `first_of`: what is left of the list gives the whole. Assumes nothing.
-use mathlib.Core.Path.{sym, ◌∙◌}
-use native.Mathlib.Omega.{arith}
-use borrow.Author.Tests.{eq-eqb, ne_eqb}
-use Rattle.rows.proofs.SearchLaws.{first_turn, first_none}
+-- `first_of` is `first_of`: the index that `position` gives is the place that is found. Assumes nothing.
+use mathlib.Core.Path.{◌≡◌, ap, ◌∙◌}
+use lib.Dec.{eqb}
+use Rattle.std.proofs.Common.{rules, tests}
+use Rattle.std.proofs.lemmas.Iterator.{YieldsList-from_slice}
+use Rattle.std.proofs.lemmas.Iterator.Adapters.{position_from-zero}
+use Rattle.std.proofs.lemmas.Iterator.Search.{position_from_yields_List}
+use Rattle.std.specs.List.{position_from}
+use Rattle.rules.specs.Ops.{kind}
+use Rattle.words.specs.Found.{found_of}
+use Rattle.words.specs.Kinds.{kind_number}
+use Rattle.rows.proofs.SearchLaws.{first_found}
 use Rattle.rows.proofs.range.first_of.Goals as goal
 
-pub returns-then-ops-i : goal.returns-then-ops-i
-returns-then-ops-i c = sym (c.loop-i.invariant.1 ∙ first_turn _ _ _ c.loop-i-test.true (eq-eqb _ _ c.if-ops-i.true))
-
-pub loop-i-preserved : goal.loop-i-preserved
-loop-i-preserved c = (omega arith, c.loop-i.invariant.1 ∙ first_turn _ _ _ c.loop-i-test.true (ne_eqb _ _ c.if-ops-i.false))
-
 pub returns : goal.returns
-returns c = sym (c.loop-i.invariant.1 ∙ first_none _ _ _ c.loop-i-test.false)
+returns c =
+    let k = kind_number c.args.k in
+    let ops = c.args.ops.now in
+    let found : c.position.result ≡ position_from (λ w. eqb (kind w) k) 0 ops =
+    position_from_yields_List (λ w. eqb (kind w) k) _ _ c.position.result c.position.ensures.ran (YieldsList-from_slice ops cc) (λ x b q h. search (rules, tests))
+    ∙ position_from-zero (λ w. eqb (kind w) k) ops in
+    ap found_of found ∙ first_found k ops 0

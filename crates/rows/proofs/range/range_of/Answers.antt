@@ -1,6 +1,7 @@
 -- `range_of` is `range_by`: the searches for Stream and Reset decide, and what they find lies in the list. Assumes nothing.
-use mathlib.Core.Path.{sym}
+use mathlib.Core.Path.{◌≡◌, sym}
 use native.Mathlib.Omega.{arith}
+use Rattle.std.specs.Prelude.{Some}
 use Rattle.rules.specs.Kinds as K
 use Rattle.rows.proofs.SearchLaws.{first_within}
 use Rattle.rows.proofs.range.range_of.Goals as goal
@@ -8,5 +9,5 @@ use Rattle.rows.proofs.range.range_of.Goals as goal
 -- the first Stream lies in the list
 pub overflow_add-from : goal.overflow_add-from
 overflow_add-from c =
-    let stream = rw c.in-At.is at c.first_of-stream.ensures in
-    omega (arith, first_within K.stream c.args.ops.now 0 c.in-At.s (sym stream))
+    let first : c.first_of.result ≡ Some c.in_ok-stream.stream = grind arith in
+    omega (arith, first_within K.stream c.args.ops.now 0 _ (sym (rw first at c.first_of.ensures)))

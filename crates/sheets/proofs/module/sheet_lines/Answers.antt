@@ -1,43 +1,58 @@
--- `sheet_lines` works out the lines of the chunks in call order: the turns from j on give the whole.
+-- `sheet_lines` works out the lines of the chunks in call order: the turns from one on give the whole.
 -- Assumes nothing.
-use mathlib.Core.Path.{ap, ◌∙◌}
-use mathlib.Core.List.{List}
+use mathlib.Core.Path.{◌≡◌, ap, ◌∙◌}
 use native.Mathlib.Omega.{arith}
-use lib.ListN.{take}
-use Rattle.rules.specs.Outcome.{Outcome}
-use Rattle.rules.specs.Sheet.{Line}
+use lib.ListN.{length, take}
+use Rattle.std.proofs.Common.{rules}
+use Rattle.std.proofs.lemmas.Result.{err_from_is_err_and}
+use Rattle.rules.specs.Form.{Chunk}
+use Rattle.rules.specs.Sheet.{chunk_line}
+use Rattle.words.specs.Parts.{chunks_in}
+use Rattle.words.specs.Refusals.{outcome_of}
+use Rattle.lines.specs.Line.{line_is}
 use Rattle.order.proofs.VisitLaws.{few-chunks}
-use Rattle.sheets.specs.Module.{in_order, rows_of}
 use Rattle.sheets.proofs.TrayLaws.{tray_size}
-use Rattle.sheets.proofs.TurnLaws.{lined_begins, lined_ends, lined_more, lined_refuses, turn_head, turn_parts_lem, turn_fits}
+use Rattle.sheets.proofs.TurnLaws.{lined_begins, lined_ends, line, lined_more, lined_refuses}
+use Rattle.sheets.proofs.PlaceLaws.{turn_head, turn_fits, turn_chunk}
 use Rattle.sheets.proofs.module.sheet_lines.Goals as goal
+use Rattle.sheets.proofs.module.sheet_lines.Goals.{After-map_err}
 
-pub loop-j-init : goal.loop-j-init
-loop-j-init c = lined_begins c.args.words.now c.args.order c.args.n (few-chunks c.requires.0.words) c.requires.1
+pub loop-chunk_index-init : goal.loop-chunk_index-init
+loop-chunk_index-init c =
+    lined_begins (chunks_in c.args.calls.now.words.now) c.args.order.now (length c.args.calls.now.places.now) (few-chunks c.requires.0.located.words) c.requires.1
 
-pub parts_from-p-requires : goal.parts_from-p-requires
-parts_from-p-requires c = turn_head c.requires.0 c.loop-j.j c.loop-j-test.true
+pub parts_from-parts-requires : goal.parts_from-parts-requires
+parts_from-parts-requires c = turn_head c.requires.0 c.loop-chunk_index.chunk_index-index c.loop-chunk_index-test.true
 
-pub chunk_line-answer-requires : goal.chunk_line-answer-requires
-chunk_line-answer-requires c = turn_fits c.requires.0 c.loop-j.j c.loop-j-test.true _ c.parts_from-p.ensures
+pub chunk_with-chunk-requires : goal.chunk_with-chunk-requires
+chunk_with-chunk-requires c = turn_fits c.requires.0 c.loop-chunk_index.chunk_index-index c.loop-chunk_index-test.true c.parts_from-parts.ensures
 
-pub returns-in-Refused : goal.returns-in-Refused
-returns-in-Refused c =
-    let line = c.in-Refused.ensures _ (turn_parts_lem c.requires.0 c.loop-j.j c.loop-j-test.true _ c.parts_from-p.ensures) in
-    c.refusal.ensures c.args.n _
-    ∙ ap (λ (o : Outcome (List Line)). rows_of (in_order (take c.args.n c.args.order) o))
-    (lined_refuses c.loop-j.invariant c.loop-j-test.true c.requires.0.order_room _ _ line)
+-- the walks of this turn give its chunk's line
+told : (c : After-map_err) → outcome_of line_is c.map_err.result ≡ line c.loop-chunk_index.invariant c.loop-chunk_index-test.true
+told c =
+    let l = c.loop-chunk_index in
+    let k = c.chunk_with-chunk.ensures in
+    let same = turn_chunk c.requires.0 l.chunk_index-index c.loop-chunk_index-test.true c.parts_from-parts.ensures c.chunk_with-chunk.result k.fields k.constants k.ops k.extras in
+    let walked = c.chunk_line.ensures ∙ ap (λ (k : Chunk). chunk_line k (take (length c.args.calls.now.places.now) l.bytes) (take (length c.args.calls.now.places.now) l.wholes)) same in
+    rw (← walked) (search rules)
+
+pub returns-in_err-line : goal.returns-in_err-line
+returns-in_err-line c =
+    let p = err_from_is_err_and c.from_residual.result c.from_residual.ensures.1 in
+    rw (p.1, p.2)
+    (lined_refuses c.loop-chunk_index.invariant c.loop-chunk_index-test.true (rw c.in_err-line.was at (told (goal.at.returns-in_err-line c).After-map_err)))
 
 pub put_row-requires : goal.put_row-requires
 put_row-requires c =
-    let l = c.loop-j.invariant in
-    omega (arith, c.requires.0.chunks c.loop-j.j c.loop-j-test.true, l.count, tray_size l.lines c.args.n c.loop-j.numbers l.rows)
+    let l = c.loop-chunk_index.invariant in
+    let i = c.loop-chunk_index.chunk_index-index in
+    omega (arith, c.requires.0.chunks i c.loop-chunk_index-test.true, l.count, tray_size l.lines _ c.loop-chunk_index.numbers l.rows)
 
-pub loop-j-preserved : goal.loop-j-preserved
-loop-j-preserved c =
-    let o = c.requires.0 in
-    let line = c.in-Is.ensures _ (turn_parts_lem o c.loop-j.j c.loop-j-test.true _ c.parts_from-p.ensures) in
-    lined_more c.loop-j.invariant c.loop-j-test.true (few-chunks o.words) o.order_room (o.chunks c.loop-j.j c.loop-j-test.true) _ line c.put_row.ensures
+pub loop-chunk_index-preserved : goal.loop-chunk_index-preserved
+loop-chunk_index-preserved c =
+    let here = rw c.in_ok-line.was at (told (goal.at.loop-chunk_index-preserved c).After-map_err) in
+    lined_more c.loop-chunk_index.invariant c.loop-chunk_index-test.true (c.requires.0.chunks c.loop-chunk_index.chunk_index-index c.loop-chunk_index-test.true)
+    (line_is c.in_ok-line.line) here c.put_row.ensures
 
 pub returns : goal.returns
-returns c = lined_ends c.loop-j.invariant c.loop-j-test.false
+returns c = lined_ends c.loop-chunk_index.invariant c.loop-chunk_index-test.false

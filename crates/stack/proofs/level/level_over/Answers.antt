@@ -1,10 +1,12 @@
 -- `level_over` gives the level behind an op.
 -- Assumes nothing.
-use Rattle.stack.proofs.LevelLaws.{over_up, over_same}
+use Rattle.std.proofs.Common.{rules, tests}
+use Rattle.stack.proofs.LevelLaws.{offset_over, during_over}
 use Rattle.stack.proofs.level.level_over.Goals as goal
 
-pub returns-then-peak-during : goal.returns-then-peak-during
-returns-then-peak-during c = over_up c.args.l c.args.e c.requires.0 c.requires.1 c.if-peak-during.true
-
 pub returns : goal.returns
-returns c = over_same c.args.l c.args.e c.requires.0 c.requires.1 c.if-peak-during.false
+returns c =
+    let (small, effect) = c.requires in
+    let o = offset_over c.args.l c.args.e small effect in
+    let d = during_over c.args.l c.args.e small effect c.max.result c.max.ensures.value in
+    rw (o, ← d) (search (rules, tests))

@@ -3,11 +3,11 @@
 use Rattle.stack.proofs.LevelLaws.{effect_call, effect_plain}
 use Rattle.stack.proofs.level.op_effect.Goals as goal
 
-pub returns-then-w-eq-CALL : goal.returns-then-w-eq-CALL
-returns-then-w-eq-CALL c =
-    effect_call c.args.ops.now c.args.callees.now c.args.i _ _ c.requires c.stack_growth-growth.ensures c.stack_shrink.ensures _ c.if-w-eq-CALL.true
-    c.call_rise.ensures.0 c.call_rise.ensures.1
+pub returns-then-is : goal.returns-then-is
+returns-then-is c =
+    effect_call c.args.ops.now c.args.callees.now c.args.i _ _ c.requires c.stack_growth-growth.ensures c.stack_shrink.ensures c.if-is.ensures _
+    c.call_rise-rise.ensures.rise c.call_rise-rise.ensures.small
 
-pub returns : goal.returns
-returns c =
-    effect_plain c.args.ops.now c.args.callees.now c.args.i _ _ c.requires c.stack_growth-growth.ensures c.stack_shrink.ensures c.if-w-eq-CALL.false
+pub returns-else-is : goal.returns-else-is
+returns-else-is c =
+    effect_plain c.args.ops.now c.args.callees.now c.args.i _ _ c.requires c.stack_growth-growth.ensures c.stack_shrink.ensures c.if-is.ensures

@@ -8,6 +8,7 @@ use Rattle.rules.specs.Ops.{uses_a}
 use Rattle.words.proofs.Table.{same}
 use Rattle.words.proofs.fields.uses_a.Goals as goal
 
+-- a test as a bit is 1 exactly where it is true
 as-bit : (u : Bool) → eqb (cond u 1 0) 1 ≡ u
 as-bit true = refl
 as-bit false = refl

@@ -2,7 +2,7 @@
 use mathlib.Core.Path.{◌≡◌, refl, ◌∙◌}
 use mathlib.Core.Bool.{false}
 use mathlib.Core.List.{List, [], ◌∷◌}
-use Prim.Native.Nat.{ℕ, ◌+◌, ◌*◌, ◌-◌, ◌/◌, ◌%◌, ◌^◌, ◌≤◌}
+use Prim.Native.Nat.{ℕ, ◌*◌, ◌-◌, ◌/◌, ◌%◌, ◌^◌}
 use native.Mathlib.Omega.{arith}
 use lib.ListN.{get_or}
 use Rattle.rules.specs.Ops.{in_groups}
@@ -11,6 +11,7 @@ use Rattle.words.proofs.FigureLaws.{row_of}
 use Rattle.words.proofs.figures.row_of.Goals as goal
 use Rattle.words.proofs.figures.row_of.Goals.{in-0, in-1, in-2, in-3, in-4, in-5, in-6, in-7, in_default}
 
+-- the rows, eight kinds in a number
 abbrev eights : List ℕ
 eights =
     0x12_12_11_12_11_8a_88_7a
@@ -23,9 +24,6 @@ eights =
     ∷ 0x22_12_10_21_21_21_21_21
     ∷ 0xa2_a2_00_00_00_00_00_00
     ∷ []
-
-four-on : (q n : ℕ) → n ≤ q → (q ≡ n → ⊥) → (q ≡ n + 1 → ⊥) → (q ≡ n + 2 → ⊥) → (q ≡ n + 3 → ⊥) → n + 4 ≤ q
-four-on q n h s t u v = omega arith
 
 pub returns : goal.returns
 unfolding in_groups

@@ -10,8 +10,8 @@ use Rattle.words.proofs.Table.{same, split}
 use Rattle.words.proofs.FigureLaws.{figures_by, row_of, over, trap_growth}
 use Rattle.words.proofs.figures.stack_growth.Goals as goal
 
-pub returns-then-k-gt-CALL_EXTERNAL_NATIVE : goal.returns-then-k-gt-CALL_EXTERNAL_NATIVE
-returns-then-k-gt-CALL_EXTERNAL_NATIVE c = rw (over c.args.w c.if-k-gt-CALL_EXTERNAL_NATIVE.true)
+pub returns-then-k-3 : goal.returns-then-k-3
+returns-then-k-3 c = rw (over c.args.w c.if-k-3.true)
 
 pub returns : goal.returns
 unfolding in_groups
@@ -20,4 +20,4 @@ returns c = let w = c.args.w in
     (split (kind w) 50 (λ e. rw e (sym (trap_growth (field_a w))))
     (λ n.
     same (λ k. eqb k 36 || eqb k 50 || leb 64 k) (λ k. row_of k / 2 % 8) (λ k. (figures_by k (field_b w) (field_a w)).growth) 66 refl (kind w) (omega arith)
-    (simp (ne_eqb _ _ c.if-k-eq-GET_INDEX.false, ne_eqb _ _ n, lt-leb _ _ c.if-k-ge-CALL_VERIFIED_NATIVE.false))))
+    (simp (ne_eqb _ _ c.if-k.false, ne_eqb _ _ n, lt-leb _ _ c.if-k-2.false))))

@@ -16,7 +16,7 @@ use Rattle.words.proofs.lookup.find_chunk.Goals.{Else-n-c}
 there : (c : Else-n-c) → let a = c.args in (read a.words.now ≡ ok (chunks_in a.words.now)) × (a.c < length (chunks_in a.words.now))
 there c =
     let ws = c.args.words.now in
-    let a = accepted ws _ (rw c.in-Accepted.is at c.read_module-reading.ensures) in
+    let a = accepted ws _ (rw c.in_ok-n.was at c.read_module.ensures) in
     (a.0, omega (arith, a.1))
 
 pub parts_at-requires : goal.parts_at-requires

@@ -1,24 +1,18 @@
--- `behind_run` passes words as long as their kinds are in the range: the run from the start is what was passed and the run from here.
--- Assumes nothing.
-use Prim.Native.Nat.{◌<◌}
-use mathlib.Core.Logic.{⊎_elim}
-use native.Mathlib.Omega.{arith}
-use lib.ListN.{length}
-use Rattle.words.proofs.RunLaws.{run_more, run_out, run_end}
+-- `behind_run` counts the words at the front whose kinds are in the range. Assumes nothing.
+use mathlib.Core.Path.{sym, ap, ◌∙◌}
+use Prim.Native.Nat.{◌+◌}
+use borrow.Author.Rules.{rules}
+use borrow.Author.Tests.{tests}
+use lib.ListN.{drop}
+use Rattle.std.specs.Slice.Iter.{iter_rest}
+use Rattle.words.specs.Parts.{of_kinds}
+use Rattle.words.proofs.RunLaws.{run_count, counted}
 use Rattle.words.proofs.parts.behind_run.Goals as goal
 
-pub returns-then-kind-low : goal.returns-then-kind-low
-returns-then-kind-low c =
-    let a = c.args in
-    let i = c.loop-i.i in
-    let h : i < length a.words.now = c.loop-i-test.true in
-    omega (arith, run_out a.low a.high a.words.now i h (λ l m. ⊎_elim (λ e. omega arith) (λ e. omega arith) c.then-kind-low.either))
-
-pub loop-i-preserved : goal.loop-i-preserved
-loop-i-preserved c = let a = c.args in
-    let i = c.loop-i.i in
-    omega (arith, run_more a.low a.high a.words.now i c.loop-i-test.true c.if-kind-low.false c.if-high-kind.false)
-
 pub returns : goal.returns
-returns c = let a = c.args in
-    omega (arith, run_end a.low a.high a.words.now c.loop-i.i c.loop-i-test.false)
+returns c =
+    ap (λ n. c.args.from + n)
+    (counted (of_kinds c.args.low c.args.high) c.args.words.now c.args.from c.take_while-run.result c.count.result
+    (ap iter_rest c.take_while-run.ensures.source ∙ c.iter.ensures.rest) c.take_while-run.ensures.closure c.take_while-run.ensures.done
+    (λ x b q k. search (rules, tests)) c.count.ensures.ran
+    ∙ sym (run_count (of_kinds c.args.low c.args.high) (drop c.args.from c.args.words.now)))

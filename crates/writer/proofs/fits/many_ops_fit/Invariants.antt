@@ -1,12 +1,11 @@
--- `many_ops_fit` holds op after op against the greatest fields of its kind. Invariant: what is left fits if and only if all does. Assumes nothing.
+-- `many_ops_fit` holds op after op against the greatest fields of its kind. Invariant: what is left fits if and only if all does. Measure: the numbers left. Assumes nothing.
 use mathlib.Core.Path.{◌≡◌}
-use Prim.Native.Nat.{◌-◌, ◌≤◌}
-use lib.ListN.{length, drop}
+use lib.ListN.{length}
 use Rattle.rules.specs.Writing.{every, op_fits, held_ops}
 use Rattle.writer.proofs.fits.many_ops_fit.Given as goal
 
-abbrev pub invariant-loop-i : goal.invariant-loop-i
-invariant-loop-i l = (l.i ≤ length l.ops) × (every op_fits (held_ops l.ops) ≡ every op_fits (held_ops (drop l.i l.ops)))
+abbrev pub invariant-loop-rest : goal.invariant-loop-rest
+invariant-loop-rest l = every op_fits (held_ops l.ops) ≡ every op_fits (held_ops l.rest)
 
-abbrev pub decreases-loop-i : goal.decreases-loop-i
-decreases-loop-i l = length l.ops - l.i
+abbrev pub decreases-loop-rest : goal.decreases-loop-rest
+decreases-loop-rest l = length l.rest

@@ -11,23 +11,23 @@ use Rattle.writer.proofs.put.put_extras.Goals as goal
 
 pub bounds-tray-next : goal.bounds-tray-next
 bounds-tray-next c =
-    let l = c.loop-i in
-    omega (arith, l.invariant.1.room, ap length (extra_left c.args.extras.now l.i c.loop-i-test.true (omega (arith, c.type_inv.extras l.i))))
+    let l = c.loop-x in
+    omega (arith, l.invariant.room, ap length (extra_left c.args.extras.now l.x-index c.loop-x-test.true (omega (arith, c.type_inv.extras l.x-index))))
 
-pub bounds-tray-next-in-loop-i : goal.bounds-tray-next-in-loop-i
-bounds-tray-next-in-loop-i c =
-    let l = c.loop-i in
-    omega (arith, length-set {A = ℕ}, l.invariant.1.room, ap length (extra_left c.args.extras.now l.i c.loop-i-test.true (omega (arith, c.type_inv.extras l.i))))
+pub bounds-tray-next-in-loop-x : goal.bounds-tray-next-in-loop-x
+bounds-tray-next-in-loop-x c =
+    let l = c.loop-x in
+    omega (arith, length-set {A = ℕ}, l.invariant.room, ap length (extra_left c.args.extras.now l.x-index c.loop-x-test.true (omega (arith, c.type_inv.extras l.x-index))))
 
-pub loop-i-preserved : goal.loop-i-preserved
-loop-i-preserved c =
-    let l = c.loop-i in
+pub loop-x-preserved : goal.loop-x-preserved
+loop-x-preserved c =
+    let l = c.loop-x in
     let xs = c.args.extras.now in
-    let here = extra_left xs l.i c.loop-i-test.true (omega (arith, c.type_inv.extras l.i)) in
-    let low = word 204 0 (get_or xs l.i 0 % 65536) in
-    let high = word 204 1 (get_or xs l.i 0 / 65536) in
-    let room : l.next + 2 ≤ length l.tray = omega (arith, l.invariant.1.room, ap length here) in
-    (omega arith, left_more (low ∷ high ∷ []) (flat_map extra_words (drop (l.i + 1) xs)) (rw here at l.invariant.1) (two_stores l.next low high l.tray room, refl))
+    let here = extra_left xs l.x-index c.loop-x-test.true (omega (arith, c.type_inv.extras l.x-index)) in
+    let low = word 204 0 (get_or xs l.x-index 0 % 65536) in
+    let high = word 204 1 (get_or xs l.x-index 0 / 65536) in
+    let room : l.next + 2 ≤ length l.tray = omega (arith, l.invariant.room, ap length here) in
+    left_more (low ∷ high ∷ []) (flat_map extra_words (drop (l.x-index + 1) xs)) (rw here at l.invariant) (two_stores l.next low high l.tray room, refl)
 
 pub returns : goal.returns
-returns c = let l = c.loop-i in left_none (rw (extras_none c.args.extras.now l.i c.loop-i-test.false) at l.invariant.1)
+returns c = let l = c.loop-x in left_none (rw (extras_none c.args.extras.now l.x-index c.loop-x-test.false) at l.invariant)

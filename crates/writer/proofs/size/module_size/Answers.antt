@@ -1,97 +1,85 @@
 -- `module_size` goes from chunk to chunk. Invariant: behind the words counted, what is left has the size of all. Assumes nothing.
 use mathlib.Core.Path.{◌≡◌, sym, ap, ◌∙◌}
-use mathlib.Core.Bool.{Bool, ◌&&◌}
+use mathlib.Core.Bool.{false≢true}
 use mathlib.Core.List.{List}
-use Prim.Native.Nat.{◌+◌, ◌*◌, ◌≤◌}
+use Prim.Native.Nat.{◌+◌, ◌*◌}
 use native.Mathlib.Omega.{arith}
-use lib.Dec.{eqb}
 use lib.ListN.{length, drop}
 use Rattle.rules.specs.Outcome.{found}
 use Rattle.rules.specs.Writing.{Draft, Held, held_first, held}
-use Rattle.writer.specs.Size.{one_fits, one_words, size_if, one_size, size_from, front_of}
-use Rattle.writer.proofs.HeldLaws.{held_at, front_all}
-use Rattle.writer.proofs.SizeLaws.{own_at, size_told, size_on, size_over, size_none, size_end}
+use Rattle.words.specs.Found.{found_of}
+use Rattle.writer.specs.Size.{one_fits, one_words, one_size, size_from}
+use Rattle.writer.specs.Lent.{own_of}
+use Rattle.writer.proofs.HeldLaws.{first_left, first_own, not_own}
+use Rattle.writer.proofs.SizeLaws.{one_most, size_told, size_on, size_over, size_none, size_end}
 use Rattle.writer.proofs.size.module_size.Goals as goal
-use Rattle.writer.proofs.size.module_size.Goals.{In-At, After-loop-i}
+use Rattle.writer.proofs.size.module_size.Goals.{In_ok-own, In_ok-total}
 
 -- the chunk at hand, and those behind it
-abbrev front : In-At → Held Draft
-front c =
-    let l = c.loop-i in
-    let a = c.args in
-    front_of c.head_at-h.result (drop l.k a.constants.now) (drop l.o a.ops.now) (drop l.x a.extras.now)
+abbrev front : In_ok-own → Held Draft
+front c = own_of c.from-h.result c.in_ok-own.own
 
-abbrev rest : In-At → Held (List Draft)
+abbrev rest : In_ok-own → Held (List Draft)
 rest c =
-    let l = c.loop-i in
-    let a = c.args in
-    let h = c.head_at-h.result in
-    held (drop (l.i + 5) a.chunks.now) (drop (l.k + 3 * h.constants) a.constants.now) (drop (l.o + 3 * h.ops) a.ops.now)
-    (drop (l.x + h.extras) a.extras.now)
+    let more = c.in_ok-own.behind in
+    held (drop ((c.loop-five.five-index + 1) * 5) c.args.chunks.now) more.constants.now more.ops.now more.extras.now
 
-first : (c : In-At) → let a = c.args in
-    size_from 1 (held a.chunks.now a.constants.now a.ops.now a.extras.now) ≡ size_from c.loop-i.total (held_first (front c) (rest c))
+first : (c : In_ok-own) → let a = c.args in
+    size_from 1 (held a.chunks.now a.lent.constants.now a.lent.ops.now a.lent.extras.now) ≡ size_from c.loop-five.total (held_first (front c) (rest c))
 first c =
-    let l = c.loop-i in
-    let a = c.args in
-    let some : l.i + 5 ≤ length a.chunks.now = omega (arith, c.loop-i-test.true, l.invariant.0) in
-    l.invariant.5 ∙ ap (size_from l.total) (held_at a.chunks.now a.constants.now a.ops.now a.extras.now l.i l.k l.o l.x c.head_at-h.result some c.head_at-h.ensures)
+    let l = c.loop-five in
+    let fives = c.as_chunks.ensures in
+    let chunk = first_left c.args.chunks.now fives.front fives.front_len c.loop-five-test.true c.from-h.ensures in
+    l.invariant.1 ∙ ap (size_from l.total) (first_own chunk l.rest c.in_ok-own.own c.in_ok-own.behind c.in_ok-own.ensures.parts)
 
--- a size that is told: its chunk fits, and its own is there
-told : (c : In-At) → one_size (front c) ≡ found c.in-At.words
-told c =
-    let l = c.loop-i in
-    let a = c.args in
-    sym (c.in-At.ensures ∙ ap one_size (front_all a.chunks.now a.constants.now a.ops.now a.extras.now l.i l.k l.o l.x c.head_at-h.result))
+-- a size that is told
+told : (c : In_ok-total) → one_size (own_of c.from-h.result c.in_ok-own.own) ≡ found c.in_ok-total.field-0
+told c = sym c.in_ok-total.ensures
 
-own : (c : In-At) → let l = c.loop-i in let a = c.args in let h = c.head_at-h.result in
-    (l.k + 3 * h.constants ≤ length a.constants.now) × (l.o + 3 * h.ops ≤ length a.ops.now) × (l.x + h.extras ≤ length a.extras.now)
-own c =
-    let l = c.loop-i in
-    let a = c.args in
-    let fits = (size_told (one_fits (front c)) (length (one_words (front c))) c.in-At.words (told c)).0 in
-    own_at c.head_at-h.result a.constants.now a.ops.now a.extras.now l.k l.o l.x l.invariant.1 l.invariant.2 l.invariant.3 fits
+pub returns-in_err-own : goal.returns-in_err-own
+returns-in_err-own c =
+    let l = c.loop-five in
+    let r = l.rest in
+    let fives = c.as_chunks.ensures in
+    let chunk = first_left c.args.chunks.now fives.front fives.front_len c.loop-five-test.true c.from-h.ensures in
+    let none = not_own chunk r.constants.now r.ops.now r.extras.now (λ h. false≢true (c.in_err-own.ensures.enough.1 h)) in
+    ap found_of c.from_residual.ensures ∙ sym (l.invariant.1 ∙ ap (size_from l.total) none)
 
-pub returns-in_default : goal.returns-in_default
-returns-in_default c =
-    let l = c.loop-i in
-    let a = c.args in
-    let h = c.head_at-h.result in
-    let some : l.i + 5 ≤ length a.chunks.now = omega (arith, c.loop-i-test.true, l.invariant.0) in
-    let one = held_at a.chunks.now a.constants.now a.ops.now a.extras.now l.i l.k l.o l.x h some c.head_at-h.ensures in
-    let none = c.in_default.ensures ∙ ap one_size (front_all a.chunks.now a.constants.now a.ops.now a.extras.now l.i l.k l.o l.x h) in
-    sym (l.invariant.5 ∙ ap (size_from l.total) one ∙ size_none l.total _ _ (sym none))
+pub returns-in_err-total : goal.returns-in_err-total
+returns-in_err-total c =
+    let b = (goal.at.returns-in_err-total c).In_ok-own in
+    ap found_of c.from_residual-in_err-total.ensures ∙ sym (first b ∙ size_none c.loop-five.total (front b) (rest b) (sym c.in_err-total.ensures))
 
-pub returns-then-total-words : goal.returns-then-total-words
-returns-then-total-words c =
-    let b = (goal.at.returns-then-total-words c).In-At in
-    sym (first b ∙ size_over c.loop-i.total (front b) (rest b) c.in-At.words (told b) (omega (arith, c.if-total-words.true, c.loop-i.invariant.4)))
+pub overflow_add-total : goal.overflow_add-total
+overflow_add-total c =
+    let b = (goal.at.overflow_add-total c).In_ok-own in
+    let (fits, long) = size_told (one_fits (front b)) (length (one_words (front b))) c.in_ok-total.field-0 (told (goal.at.overflow_add-total c).In_ok-total) in
+    omega (arith, c.loop-five.invariant.0, long, one_most c.in_ok-own.ensures.parts fits)
 
-pub loop-i-preserved : goal.loop-i-preserved
-loop-i-preserved c =
-    let b = (goal.at.loop-i-preserved c).In-At in
-    let there = own b in (
-      omega (arith, c.loop-i-test.true, c.loop-i.invariant.0),
-      there.0,
-      there.1,
-      there.2,
-      omega (arith, c.if-total-words.false, c.loop-i.invariant.4),
-      first b ∙ size_on c.loop-i.total (front b) (rest b) c.in-At.words (told b),
-    )
+pub returns-then-total-gt-WORDS : goal.returns-then-total-gt-WORDS
+returns-then-total-gt-WORDS c =
+    let b = (goal.at.returns-then-total-gt-WORDS c).In_ok-own in
+    let t = told (goal.at.returns-then-total-gt-WORDS c).In_ok-total in
+    sym (first b ∙ size_over c.loop-five.total (front b) (rest b) c.in_ok-total.field-0 t c.if-total-gt-WORDS.true)
 
--- at the end: whether nothing is left over
-end : (c : After-loop-i) → let l = c.loop-i in let a = c.args in
-    size_from 1 (held a.chunks.now a.constants.now a.ops.now a.extras.now)
-    ≡ size_if (eqb l.i (length a.chunks.now) && eqb l.k (length a.constants.now) && eqb l.o (length a.ops.now) && eqb l.x (length a.extras.now)) l.total
-end c =
-    let l = c.loop-i in
-    let a = c.args in
-    l.invariant.5
-    ∙ size_end l.total a.chunks.now a.constants.now a.ops.now a.extras.now l.i l.k l.o l.x l.invariant.0 l.invariant.1 l.invariant.2
-    l.invariant.3 (omega (arith, c.loop-i-test.false)) l.invariant.4
+pub loop-five-preserved : goal.loop-five-preserved
+loop-five-preserved c =
+    let b = (goal.at.loop-five-preserved c).In_ok-own in
+    let t = told (goal.at.loop-five-preserved c).In_ok-total in
+    (c.if-total-gt-WORDS.false, first b ∙ size_on c.loop-five.total (front b) (rest b) c.in_ok-total.field-0 t)
 
-pub returns-then-i-chunks : goal.returns-then-i-chunks
-returns-then-i-chunks c = sym (end (goal.at.returns-then-i-chunks c).After-loop-i ∙ ap (λ (b : Bool). size_if b c.loop-i.total) c.if-i-chunks.true)
+pub returns-then-is_empty : goal.returns-then-is_empty
+returns-then-is_empty c =
+    let l = c.loop-five in
+    let r = l.rest in
+    let fives = c.as_chunks.ensures in
+    let end = size_end l.total l.five-index c.args.chunks.now c.as_chunks.result.1.now r.constants.now r.ops.now r.extras.now (omega (arith, fives.front_len)) fives.back l.invariant.0 in
+    rw (l.invariant.1, end, ← c.is_empty.ensures, ← c.is_empty-2.ensures, ← c.is_empty-3.ensures, ← c.is_empty-4.ensures, c.if-is_empty.true)
 
 pub returns : goal.returns
-returns c = sym (end (goal.at.returns c).After-loop-i ∙ ap (λ (b : Bool). size_if b c.loop-i.total) c.if-i-chunks.false)
+returns c =
+    let l = c.loop-five in
+    let r = l.rest in
+    let fives = c.as_chunks.ensures in
+    let end = size_end l.total l.five-index c.args.chunks.now c.as_chunks.result.1.now r.constants.now r.ops.now r.extras.now (omega (arith, fives.front_len)) fives.back l.invariant.0 in
+    rw (l.invariant.1, end, ← c.is_empty.ensures, ← c.is_empty-2.ensures, ← c.is_empty-3.ensures, ← c.is_empty-4.ensures, c.if-is_empty.false)

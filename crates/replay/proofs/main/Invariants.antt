@@ -1,5 +1,0 @@
--- `main` asks for at most so many questions. Assumes nothing.
-use Rattle.replay.proofs.main.Given as goal
-
-abbrev pub decreases-loop-left : goal.decreases-loop-left
-decreases-loop-left l = l.left

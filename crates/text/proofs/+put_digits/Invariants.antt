@@ -1,6 +1,0 @@
--- `put_digits` writes the digits of a number: those of its tenth, and its remainder. The number falls.
--- Assumes nothing.
-use Rattle.text.proofs.+put_digits.Given as goal
-
-abbrev pub decreases-put_digits : goal.decreases-put_digits
-decreases-put_digits l = l.n

@@ -1,0 +1,10 @@
+-- The greatest fields of an op kind.
+use Rattle.std.specs.Prelude.{cond, ℕ}
+use Rattle.rules.specs.Ops.{uses_a, greatest_b}
+use Rattle.writer.specs.declared.fits.Greatest.{Greatest}
+
+abbrev pub no_fields : Greatest
+no_fields = record { a = 0; b = 0 }
+
+abbrev pub fields_of : ℕ → Greatest
+fields_of k = record { a = cond (uses_a k) 65535 0; b = greatest_b k }
