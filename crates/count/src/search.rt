@@ -44,6 +44,7 @@ pub fn never_sets(ops: &[u32], v: u32, e: u32, n: usize, i: usize) -> bool
 const PIECE: usize = 64;
 
 // The position to search below, once the pieces right below `before` that do not set the slot are passed over.
+// That it lies in the list, here and below, is a bound of one number: a type for it would be made to be taken apart.
 fn past_pieces(ops: &[u32], before: usize, slot: u32) -> usize
     requires { before ≤ length ops.now }
     ensures { (result ≤ before) × (last_set ops.now before slot ≡ last_set ops.now result slot) }

@@ -232,7 +232,8 @@ impl CycleWalk<'_> {
     }
 }
 
-// A body that never reaches EndLoop at e: charged once; without a break it ends the row.
+// A body that never reaches EndLoop at e: charged once; without a break it ends the row. That e is below 65,536 is a bound of one number: a type for it would be
+// made to be taken apart.
 fn one_pass(e: usize, cost: u64, body: Cost, breaks: Option<u64>) -> Step
     requires { e < 65536 }
     ensures { result ≡ one_pass_at e cost body breaks }

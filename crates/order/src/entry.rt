@@ -28,6 +28,7 @@ pub fn call_order(calls: &Calls<'_>) -> Result<Search, Ring>
 }
 
 // The chunks of a module, each behind the chunks that it calls, into the tray: how many they are, or refusal 1, 2, 13 or 10. A refusal writes nothing.
+// `module_sheet` begins alike, but it asks for another room, and `Calls` borrows the places, which have to live here: one function for both would be no plainer.
 pub fn topological_call_order(words: &[u32], tray: &mut [u32]) -> Result<u32, Refused>
     ensures answer { outcome_of (λ n. n) result ≡ length_of (order_outcome words.now (length tray.old)) }
     ensures written { tray.new ≡ order_tray (order_outcome words.now (length tray.old)) tray.old }

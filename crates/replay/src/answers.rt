@@ -110,6 +110,7 @@ fn show_tray<W: Write, F: FnOnce(&mut [u32]) -> Result<u32, Refused>>(
     requires room { room ≤ tray_room }
     requires callable { F.IsAlwaysCallable call }
 {
+    // The call is lent a slice: a list that grows would be filled first and cut then.
     let mut tray = [MARK; TRAY];
     show_number(out, call(&mut tray[..room]))?;
     write_tray(out, &tray[..room])

@@ -32,6 +32,7 @@ const QUESTIONS: usize = 1000;
 fn take<const N: usize, R: Read>(input: &mut R, n: usize) -> Option<ArrayVec<u32, N>>
     requires { (n ≤ N) × (n ≤ word_room) }
 {
+    // `read_exact` is lent a slice: a list that grows would be filled first and cut then.
     let mut bytes = [0u8; 4 * WORDS];
     let front = &mut bytes[..4 * n];
     input.read_exact(front).ok()?;

@@ -63,6 +63,7 @@ fn put_module(input: &[u8], out: &mut ArrayVec<u8, SHELF_OUT>) -> Result<(), Ref
     if end != numbers.len() || numbers[0] != 0 {
         return Err(unfit);
     }
+    // The writer is lent a slice: a list that grows would be filled first and cut then.
     let mut tray = [0u32; WORDS];
     let n = write_module(
         &numbers[HEAD..constants],

@@ -25,6 +25,7 @@ pub const WIDTH: usize = lines::row::WIDTH;
 pub type Order = ArrayVec<u8, CHUNKS>;
 
 // The line of each chunk of a module into the tray, WIDTH numbers a chunk: how many lines they are, or a refusal, which writes nothing.
+// `topological_call_order` begins alike, but it asks for another room: one function for both would be no plainer.
 pub fn module_sheet(words: &[u32], tray: &mut [u32]) -> Result<u32, Refused>
     ensures answer { outcome_of (λ n. n) result ≡ count_of (sheet_outcome words.now (length tray.old)) }
     ensures written { tray.new ≡ sheet_tray (sheet_outcome words.now (length tray.old)) tray.old }

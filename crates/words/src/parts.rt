@@ -18,6 +18,7 @@ pub struct Parts {
 }
 
 // Behind the words from `from` on whose kinds are from `low` to `high`, numbers of kinds, since all between them count.
+// That the place lies in the list is a bound of one number: a type for it would be made to be taken apart.
 fn behind_run(words: &[u32], from: usize, low: u32, high: u32) -> usize
     requires { from ≤ length words.now }
     ensures { result ≡ from + length (run_of low high (drop from words.now)) }

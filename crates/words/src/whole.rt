@@ -42,7 +42,7 @@ fn is_whole_extra(s: u32, t: u32) -> bool
     is_extra(0, s) & is_extra(1, t)
 }
 
-// Behind the whole constants from `from` on.
+// Behind the whole constants from `from` on. That the place lies in the list, here and below, is a bound of one number: a type for it would be made to be taken apart.
 pub fn past_constants(words: &[u32], from: usize) -> usize
     requires { from ≤ length words.now }
     ensures within { (from ≤ result) × (result ≤ length words.now) }

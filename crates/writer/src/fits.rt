@@ -15,7 +15,8 @@ const MOST_A: u32 = 65535;
 // As many numbers as make listing the greatest fields worth its time: those of 16 ops.
 const MANY: usize = 16 * LENT_OP;
 
-// A constant has one of its two forms: 0 and the halves of an integer, which always has 64 bits, or 1, 0, 0.
+// A constant has one of its two forms: 0 and the halves of an integer, which always has 64 bits, or 1, 0, 0. The first number is as an editor lends it,
+// so it may be any.
 fn is_constant(t: u32, low: u32, high: u32) -> bool
     ensures { result ≡ held_fits constant_fits (held_constant t low high) }
 {

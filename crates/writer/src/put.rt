@@ -40,7 +40,7 @@ fn put_constants(constants: &[u32], tray: &mut [u32], at: usize) -> usize
     next
 }
 
-// The words of ops from place `at` on, and the place behind them.
+// The words of ops from place `at` on, and the place behind them. Their kinds are numbers, as an editor lends them.
 fn put_ops(ops: &[u32], tray: &mut [u32], at: usize) -> usize
     requires { (every op_fits (held_ops ops.now) ≡ true) × (at + length (map op_word (held_ops ops.now)) ≤ length tray.old) }
     ensures { Put at (map op_word (held_ops ops.now)) tray.old tray.new result }
