@@ -3,10 +3,11 @@ use Rattle.std.specs.Prelude.{Bool, List, [], ◌∷◌, ◌++◌, ℕ, ◌*◌,
 use Rattle.rules.specs.Sheet.{line_width}
 use Rattle.rules.specs.Text.{decimal, space, plus_if}
 
--- the cycles of a line up to the space behind them, and the most bytes of that
+-- the cycles of a line up to the space behind them
 unfoldable pub cycles_text : ℕ → Bool → List ℕ
 cycles_text n cut = decimal n ++ (plus_if cut ++ (space ∷ []))
 
+-- the most bytes of that: ten digits, a plus sign and a space
 abbrev pub cycles_most : ℕ
 cycles_most = 12
 

@@ -4,10 +4,12 @@ use Rattle.rules.specs.Ops.{kind, field_a}
 use Rattle.rows.specs.declared.check.Opening.{Opening}
 use Rattle.rows.specs.declared.check.Opening.TheVariants.{Plain, Block, Loop, Crossed}
 
+-- a block that ends at e, where a test holds
 abbrev pub block_if : Bool → ℕ → Opening
 block_if true e = Block e
 block_if false e = Crossed
 
+-- a Loop whose EndLoop is e, where a test holds
 abbrev pub loop_if : Bool → ℕ → Opening
 loop_if true e = Loop e
 loop_if false e = Crossed

@@ -4,6 +4,7 @@ use Rattle.rules.specs.Outcome as O
 use Rattle.rules.specs.Rows as R
 use Rattle.rows.specs.declared.range.Range.{Range}
 
+-- a range, by its two ends
 abbrev pub range_is : Range → R.Range
 range_is g = record { from = g.from; to = g.to }
 

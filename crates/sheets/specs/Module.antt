@@ -12,6 +12,7 @@ pub record Rows : Type 0 where
   pub order : List ℕ
   pub numbers : List ℕ
 
+-- a sheet as rows; a refusal stays
 abbrev pub rows_of : Outcome R.Sheet → Outcome Rows
 rows_of o = followed_by o (λ s. answer (record { order = s.order; numbers = R.tray_numbers s.lines }))
 

@@ -23,18 +23,20 @@ level_over l e =
       broken = l.broken;
     }
 
--- a level with its peak raised, and with another mark of breaks
+-- a level with its peak raised
 abbrev pub raised_to : Level → ℕ → Level
 raised_to l peak = record { offset = l.offset; peak = record { 0 = max l.peak.0 peak }; broken = l.broken }
 
+-- a level with another mark of breaks
 abbrev pub marked_as : Level → Bool → Level
 marked_as l broken = record { offset = l.offset; peak = l.peak; broken = broken }
 
--- what a delta and a height stand for in document 01
+-- what a delta stands for in document 01: an offset, or a row that ends
 abbrev pub delta_of : Option ℤ → R.Delta
 delta_of (Some x) = R.offset x
 delta_of None = R.ends
 
+-- a height, by its three parts
 abbrev pub height_of : Height → R.Height
 height_of h = R.height h.peak.0 (delta_of h.delta) h.broken
 
@@ -56,10 +58,12 @@ pub record Small (l : Level) (b : ℕ) : Type 0 where
   pub offset : nat_abs l.offset ≤ b
   pub peak : l.peak.0 ≤ b + 134217728
 
+-- A delta that is at most b away from 0, or none.
 abbrev pub SmallDelta : R.Delta → ℕ → Type 0
 SmallDelta (R.offset x) b = nat_abs x ≤ b
 SmallDelta R.ends b = Unit {0}
 
+-- The height of a row within the same bounds as a level.
 pub record SmallHeight (h : R.Height) (b : ℕ) : Type 0 where
   pub peak : h.peak ≤ b + 134217728
   pub delta : SmallDelta h.delta b

@@ -25,14 +25,16 @@ region_height c callees i to left d peak broken =
 abbrev pub level_height : Chunk → List ℕ → ℕ → ℕ → ℕ → Level → O.Result R.Height
 level_height c callees i to left l = region_height c callees i to left l.offset l.peak.0 l.broken
 
--- the walk of a body, one level deeper, and what the row around it sees of it from offset d
+-- the walk of a body, one level deeper
 abbrev pub body_height : Chunk → List ℕ → ℕ → ℕ → ℕ → Bool → O.Result R.Height
 body_height c callees from to left broken = inner left (λ l. region_height c callees from to l (pos 0) 0 broken)
 
+-- a body's answer as the row around it sees it from offset d; a refusal stays
 abbrev pub lifted_by : ℤ → O.Result R.Height → O.Result R.Height
 lifted_by d (O.ok h) = O.ok (lifted d h)
 lifted_by d (O.no n p) = O.no n p
 
+-- the walk of a part of a row, as the row around it sees it
 abbrev pub part_height : Chunk → List ℕ → ℕ → ℕ → ℕ → ℤ → Bool → O.Result R.Height
 part_height c callees from to left d broken = lifted_by d (body_height c callees from to left broken)
 
@@ -40,6 +42,7 @@ part_height c callees from to left d broken = lifted_by d (body_height c callees
 abbrev pub walk_result : Result Height Fault → O.Result R.Height
 walk_result r = result_of height_of r
 
+-- a height within the bounds, or a refusal
 abbrev pub SmallResult : O.Result R.Height → ℕ → Type 0
 SmallResult (O.ok h) b = SmallHeight h b
 SmallResult (O.no n p) b = Unit {0}
@@ -70,6 +73,7 @@ abbrev pub step_height : Chunk → List ℕ → ℕ → ℕ → Step → O.Resul
 step_height c callees to left (Goes j l) = level_height c callees j to left l
 step_height c callees to left (Ends h) = O.ok (height_of h)
 
+-- how a row goes on from the answer of a step; a refusal stays
 abbrev pub step_result : Chunk → List ℕ → ℕ → ℕ → O.Result Step → O.Result R.Height
 step_result c callees to left r = O.and_then r (λ s. step_height c callees to left s)
 
@@ -96,6 +100,7 @@ if_tail c callees i t to left l =
     (λ arm. R.unless_ended (R.greater_delta (R.offset l.offset) arm.delta) (max l.peak.0 arm.peak) arm.broken
     (λ d p b. region_height c callees (suc t) to left d p b))
 
+-- the step over an If whose arm ends at EndIf t
 abbrev pub IfMeans : Chunk → List ℕ → ℕ → ℕ → ℕ → ℕ → Level → Result Step Fault → Type 0
 IfMeans c callees i t to left l r = Means c callees i (suc i) to left l (if_tail c callees i t to left l) r
 
@@ -111,6 +116,7 @@ else_tail c callees i e f to left l =
     O.and_then (part_height c callees (suc i) e left l.offset l.broken)
     (λ arm. O.and_then (part_height c callees (suc e) f left l.offset arm.broken) (λ other. arms_tail c callees f to left l arm other))
 
+-- the step over an If with Else at e and EndIf at f
 abbrev pub ElseMeans : Chunk → List ℕ → ℕ → ℕ → ℕ → ℕ → ℕ → Level → Result Step Fault → Type 0
 ElseMeans c callees i e f to left l r = Means c callees i (suc i) to left l (else_tail c callees i e f to left l) r
 
@@ -121,6 +127,7 @@ loop_tail c callees i e to left l =
     (λ body. R.after_body (R.rise_of c callees) (R.move_of c) (count_of c) body.delta body.broken i l.offset
     (max l.peak.0 body.peak) l.broken (λ d p b. region_height c callees (suc e) to left d p b))
 
+-- the step over a Loop with EndLoop at e
 abbrev pub LoopMeans : Chunk → List ℕ → ℕ → ℕ → ℕ → ℕ → Level → Result Step Fault → Type 0
 LoopMeans c callees i e to left l r = Means c callees i (suc i) to left l (loop_tail c callees i e to left l) r
 

@@ -8,7 +8,7 @@ use native.Mathlib.Omega.{arith}
 use borrow.Author.Tests.{ltb-true}
 use lib.Dec.{ltb}
 use lib.ListN.{length}
-use Rattle.rules.specs.Outcome.{ok, Outcome, answer, refused, followed_by, in_chunk, demand}
+use Rattle.rules.specs.Outcome.{ok, answer, in_chunk, demand}
 use Rattle.rules.specs.Form.{Chunk, ChunkFits}
 use Rattle.rules.specs.Reading.{read}
 use Rattle.rules.specs.Order.{chunk_at}
@@ -30,30 +30,13 @@ accepted ws n e =
     let r = from_chunk 0 (read ws) a.1 in
     rw r (refl, cc a.2)
 
--- a refusal stays where what comes behind the first part refuses alike
-refused_alike : {A B C : Type 0} (o : Outcome A) (f : A → Outcome B) (g : A → Outcome C) (n k q : ℕ) → ((a : A) → refused n k q ≡ f a → refused n k q ≡ g a)
-    → refused n k q ≡ followed_by o f → refused n k q ≡ followed_by o g
-refused_alike (answer a) f g n k q h e = h a e
-refused_alike (refused m c p) f g n k q h e = cc
-
--- a refusal of the reader refuses whatever comes behind it
-pub refused_before : {A : Type 0} {k : ℕ} (ws : List ℕ) (n p : ℕ) (next : List Chunk → Outcome A) → refused n k p ≡ read_outcome ws
-    → refused n k p ≡ followed_by (read_module ws) next
-refused_before {A} {k} ws n p next e = refused_alike (read_module ws) _ next n k p (λ cs f. absurd (let z : ◌≡◌ {A = ℕ} 0 1 = cc in omega arith)) e
-
--- a lookup that refuses is document 01's refusal, and one that answers gives the parts of document 01's chunk
+-- what a lookup that answers gives: the parts of document 01's chunk
 pub record Chunked (ws : List ℕ) (c : ℕ) (p : Parts) : Type 0 where
   pub chunk : Chunk
   pub outcome : chunk_outcome ws c ≡ answer chunk
   pub parts : PartsOf ws p chunk
   pub fits : ChunkFits chunk
   pub short : length ws ≤ 16384
-
--- a lookup's refusal is document 01's for the chunk
-pub lookup_refused : (ws : List ℕ) (c n k q : ℕ) → refused n k q ≡ parts_outcome ws c → refused n k q ≡ chunk_outcome ws c
-lookup_refused ws c n k q e =
-    refused_alike (read_module ws) _ _ n k q
-    (λ cs f. decide (ltb c (length cs)) (λ t. absurd (let g = rw t at f in let z : ◌≡◌ {A = ℕ} 0 1 = cc in omega arith)) (λ t. let g = rw t at f in rw t cc)) e
 
 -- a lookup's parts are those of document 01's chunk
 pub lookup_found : (ws : List ℕ) (c : ℕ) (p : Parts) → answer p ≡ parts_outcome ws c → Chunked ws c p

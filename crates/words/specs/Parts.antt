@@ -9,13 +9,15 @@ use Rattle.rules.specs.Form.{Chunk, ChunkFits, chunk_words}
 use Rattle.rules.specs.Reading.{take_while, read, constants_of, extras_of}
 use Rattle.words.specs.declared.parts.Parts.{Parts}
 
--- the words at the front whose kinds are from `low` to `high`
+-- a word whose kind is from `low` to `high`
 abbrev pub of_kinds : ℕ → ℕ → ℕ → Bool
 of_kinds low high w = between low high (kind w)
 
+-- the words in front whose kinds are from `low` to `high`
 abbrev pub run_of : ℕ → ℕ → List ℕ → List ℕ
 run_of low high ws = take_while (of_kinds low high) ws
 
+-- the position behind that run from `from` on
 abbrev pub behind_run : ℕ → ℕ → List ℕ → ℕ → ℕ
 behind_run low high ws from = from + length (run_of low high (drop from ws))
 
@@ -35,11 +37,12 @@ parts_at ws at =
 abbrev pub part_of : ℕ → ℕ → List ℕ → List ℕ
 part_of from to ws = take (to - from) (drop from ws)
 
--- the chunks of words that are a module
+-- the chunks of a reading; of a refusal none
 abbrev pub chunks_read : Result (List Chunk) → List Chunk
 chunks_read (ok cs) = cs
 chunks_read (no n p) = []
 
+-- the chunks of words that are a module; of other words none
 abbrev pub chunks_in : List ℕ → List Chunk
 chunks_in ws = chunks_read (read ws)
 

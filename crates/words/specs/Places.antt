@@ -8,6 +8,7 @@ abbrev pub place_at : List ℕ → ℕ → ChunkPlace
 place_at ws at =
     record { head = at; ops = (parts_at ws at).ops; extras = (parts_at ws at).extras; end = (parts_at ws at).end }
 
+-- what is read past the list's end: no chunk stands there
 abbrev pub nowhere : ChunkPlace
 nowhere = record { head = 0; ops = 0; extras = 0; end = 0 }
 

@@ -7,6 +7,7 @@ use Rattle.words.specs.declared.refusals.Refusal.TheVariants.{BadHead, BadWord, 
 use Rattle.words.specs.declared.refusals.Fault.{Fault}
 use Rattle.words.specs.declared.refusals.Refused.{Refused}
 
+-- the number of each refusal
 abbrev pub refusal_number : Refusal → ℕ
 refusal_number BadHead = N.bad_head
 refusal_number BadWord = N.bad_word
