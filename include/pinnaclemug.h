@@ -3,7 +3,7 @@
  * Every function but pm_write takes filed words, document 01's 32-bit words in the machine's byte order; pm_write takes the parts of a module and writes
  * these words. Each returns one number: its answer, or a refusal.
  *
- * A refusal is packed alike by all: its number (1 to 15) in the highest 8 bits, its chunk in the next 24, its place in the lowest 32. No answer
+ * A refusal is packed alike by all: its number (1 to 16) in the highest 8 bits, its chunk in the next 24, its place in the lowest 32. No answer
  * reaches the highest 8 bits, so that a packed value is a refusal if and only if they are not 0. Chunk and place of a refusal are kept whole but where
  * a caller hands in more than they have room for: the chunk is kept modulo 2^24, so that refusal 12 for chunk 16,777,216 reads as chunk 0, and a place
  * modulo 2^32.
@@ -44,7 +44,7 @@
 /* Whether a packed value is a refusal. */
 static inline int pm_is_refusal(uint64_t packed) { return packed >> 56 != 0; }
 
-/* The number of a refusal, 1 to 15. */
+/* The number of a refusal, 1 to 16. */
 static inline uint32_t pm_number(uint64_t refusal) { return (uint32_t)(refusal >> 56); }
 
 /* The chunk of a refusal, modulo 2^24. */

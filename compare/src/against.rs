@@ -18,6 +18,7 @@ mod form;
 mod kinds;
 mod limits;
 mod loops;
+mod moved;
 mod nesting;
 #[path = "standin/passes.rs"]
 mod passes;
@@ -25,6 +26,7 @@ mod picks;
 mod pieces;
 #[allow(dead_code)]
 mod pinnaclemug;
+mod placed;
 mod programs;
 mod questions;
 #[allow(dead_code)]
@@ -38,12 +40,15 @@ mod stepping;
 mod steps;
 mod store;
 mod strays;
+mod sure;
+mod sure_cases;
 mod table;
 #[allow(dead_code)]
 #[path = "standin/text_size.rs"]
 mod text_size;
 mod times;
 mod typical;
+mod unsure;
 use passes::{verify_init, verify_typed};
 
 #[allow(dead_code, unexpected_cfgs)]
@@ -227,6 +232,9 @@ fn random_modules(counts: &mut Counts, random: &mut Random, modules: u64) {
 /// So many random modules there are to one more whose steps are drawn.
 const TO_ONE_STEPPING: u64 = 15;
 
+/// And to one more in which blocks were put around what sets a value.
+const TO_ONE_MOVED: u64 = 5;
+
 /// Says of each part how many modules and differences it had, and how long it took up to its end.
 fn teller() -> impl FnMut(&str, &Counts) {
     let start = std::time::Instant::now();
@@ -265,6 +273,8 @@ fn run(seed: u64, modules: u64) -> bool {
     told("random modules", &counts);
     steps::all(&mut counts, seed, modules / TO_ONE_STEPPING);
     told("loops that step", &counts);
+    unsure::all(&mut counts, seed, modules / TO_ONE_MOVED);
+    told("unsure counts", &counts);
     counts.print();
     times::print();
     println!(

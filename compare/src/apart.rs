@@ -6,6 +6,7 @@ use crate::form::{Chunk, Op};
 use crate::kinds::*;
 use crate::pieces::{chunk, chunk_l, op, ops};
 use crate::refusals::*;
+use crate::sure_cases::{arm, counter};
 use crate::table::{COMPARISONS, Outcome};
 use crate::verify::oracle;
 use Outcome::{Answer, Refused};
@@ -153,6 +154,23 @@ fn steps() -> Vec<Part> {
     ]
 }
 
+/// The original takes a value from where it was last set by position, whether or not a path comes from there with it.
+fn unsure() -> Vec<Part> {
+    let unsure = |name, chunk, place, cycles, ends| Part {
+        name,
+        of: Cycles,
+        chunk,
+        callee: 0,
+        ours: Refused(UNSURE_COUNT, 0, place),
+        original: answer(cycles, ends),
+    };
+    vec![
+        unsure("an end that is set in an arm", arm(), 6, 48, false),
+        unsure("an end that is the outer counter", counter(), 11, 50, false),
+        unsure("a sum that may leave 64 bits", chunk_l(&[0, 2, i64::MAX]), 4, 36, true),
+    ]
+}
+
 /// What the original's public functions do beside the walk.
 fn functions() -> Vec<Part> {
     let held = |mode, ops| chunk(mode, 0, &[], ops);
@@ -191,7 +209,7 @@ fn functions() -> Vec<Part> {
 
 /// Each input has to give both answers.
 pub fn all(counts: &mut Counts) {
-    let parts = [rows(), strays(), steps(), functions()];
+    let parts = [rows(), strays(), steps(), unsure(), functions()];
     for part in parts.into_iter().flatten() {
         let case = Case::new(crate::form::write(&[part.chunk]), vec![part.callee]);
         let row = if part.of == Stack { "stack" } else { "cycles" };

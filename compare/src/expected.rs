@@ -5,6 +5,7 @@ use crate::exact::{self, Exact};
 use crate::kinds::REENTRANT;
 use crate::refusals::*;
 use crate::stepping;
+use crate::sure;
 use crate::table::{self, ENDS, Outcome, WHOLE};
 use crate::verify::oracle::{self, FIELDS};
 use Outcome::{Answer, Refused};
@@ -26,6 +27,7 @@ pub fn refused(refusal: Refusal, c: usize) -> Outcome {
 /// Why an input is set apart.
 const NO_ROW: &str = "no row";
 const STRAY: &str = "stray break";
+const UNSURE: &str = "unsure count";
 
 /// What a chunk is refused by before any walk that the original has no test for: 6, and behind it 15. Its answer is held against ours only where neither is
 /// met.
@@ -37,6 +39,12 @@ fn set_apart(case: &Case, c: usize) -> Option<Expected> {
         _ => return None,
     };
     Some(Apart(reason, refused(refusal, c)))
+}
+
+/// What the cycle walk of a chunk is set apart for: 6 or 15 before it, or in it 16, which the stack walk does not test.
+fn walk_apart(case: &Case, c: usize) -> Option<Expected> {
+    let unsure = || Some(Refused(UNSURE_COUNT, c, sure::unsure(case, c)?));
+    set_apart(case, c).or_else(|| Some(Apart(UNSURE, unsure()?)))
 }
 
 /// Where the range is no row: refusal 6. The original is asked too where that is short, since its walk may take exponential time on such a range.
@@ -59,16 +67,17 @@ enum By {
 }
 
 /// What is expected, by what is found with each way to count. Where nothing steps by another number than 1 that is the original's; where the original's is set
-/// apart it stays so.
+/// apart it stays so. What a sheet meets by steps may be a 16 of a chunk that the original does not get to: there too it is set apart.
 fn counted(steps: bool, found: impl Fn(By) -> Expected) -> Expected {
-    let by_steps = || match found(By::Steps) {
-        Same(outcome) | Apart(_, outcome) | Stepping(outcome, _) => outcome,
-    };
-    match found(By::Ones) {
-        original if !steps => original,
-        Same(original) => Stepping(by_steps(), original),
-        Apart(reason, _) => Apart(reason, by_steps()),
-        stepping => stepping,
+    let original = found(By::Ones);
+    if !steps {
+        return original;
+    }
+    match (original, found(By::Steps)) {
+        (_, unsure @ Apart(UNSURE, _)) => unsure,
+        (Same(original), Same(outcome) | Apart(_, outcome)) => Stepping(outcome, original),
+        (Apart(reason, _), Same(outcome) | Apart(_, outcome)) => Apart(reason, outcome),
+        _ => panic!("by one way to count there is no other beside it"),
     }
 }
 
@@ -97,7 +106,7 @@ pub fn count(case: &Case, c: usize, p: usize) -> Expected {
 }
 
 fn cycles_by(case: &Case, c: usize, by: By) -> Expected {
-    match set_apart(case, c) {
+    match walk_apart(case, c) {
         Some(Apart(NO_ROW, _)) => crossed(&case.module.chunks[c], c),
         Some(apart) => apart,
         None => Same(walked_cycles(case, c, by)),
@@ -194,7 +203,7 @@ pub fn marks(case: &Case) -> Expected {
 fn public_cycles_by(case: &Case, c: usize, by: By) -> Expected {
     let ours = || table::our_public_cycles(case, c);
     let chunk = &case.module.chunks[c];
-    if let Some(apart) = set_apart(case, c) {
+    if let Some(apart) = walk_apart(case, c) {
         return apart;
     }
     if let Err(refusal @ Refusal(NO_STREAM | NO_RESET, 0)) = document::chunk_row(&case.chunks[c])
@@ -265,7 +274,7 @@ fn sheet_by(case: &Case, by: By) -> Expected {
     let mut lines = vec![0; FIELDS * order.len()];
     let mut bytes = vec![0; order.len()];
     for c in order {
-        if let Some(apart) = set_apart(case, c) {
+        if let Some(apart) = walk_apart(case, c) {
             return apart;
         }
         let cost = match walked_cycles(case, c, by) {

@@ -61,6 +61,16 @@ pub fn tail(v: usize, step: usize) -> [Op; 5] {
     ]
 }
 
+/// Such a loop at a position, alone: of slot 0 up to slot 1, the constant 2 its step. This is chunk L's, with its targets.
+pub fn loop_at(p: usize) -> Vec<Op> {
+    let mut ops = vec![op(LOOP, 0, p + 11)];
+    ops.extend(header(0, 1));
+    ops.extend(tail(0, 2));
+    ops.push(op(END_LOOP, 0, p + 1));
+    ops[4].a = ops[0].a;
+    ops
+}
+
 pub fn chunk(mode: u8, locals: u16, constants: &[i64], ops: Vec<Op>) -> Chunk {
     Chunk {
         locals,

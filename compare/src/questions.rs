@@ -1,5 +1,6 @@
 //! The stored questions: document 01's cases and what DECISIONS reads into it, every op kind, every refusal at different places, the limits, near misses of a
-//! count, callees, random modules from a fixed seed, stray breaks, figures about the cap, and loops that step by other numbers than 1.
+//! count, callees, random modules from a fixed seed, stray breaks, figures about the cap, loops that step by other numbers than 1, and counts
+//! that a path may not keep to.
 mod calls;
 mod counted;
 mod library;
@@ -9,6 +10,7 @@ mod rows;
 mod stacks;
 mod steps;
 mod strays;
+mod sure;
 mod whole;
 
 use crate::form::{self, Chunk, Op};
@@ -201,5 +203,6 @@ pub fn all() -> Vec<Question> {
     strays::all(&mut list);
     marks::all(&mut list);
     steps::all(&mut list);
+    sure::all(&mut list);
     list.0
 }

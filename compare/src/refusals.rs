@@ -14,3 +14,4 @@ pub const NO_SUCH_CHUNK: u32 = 12;
 pub const SHORT_TRAY: u32 = 13;
 pub const UNFIT_PART: u32 = 14;
 pub const STRAY_BREAK: u32 = 15;
+pub const UNSURE_COUNT: u32 = 16;

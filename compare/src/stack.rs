@@ -98,23 +98,22 @@ fn ifs(at: usize, blocks: usize, inside: Vec<Op>) -> Vec<Op> {
     ops
 }
 
-/// An array of five in slot 2, copied so often from slot 2 to slot 2, whose length is the end of a loop within so many Ifs.
+/// Within so many Ifs an array of five in slot 2, copied so often from slot 2 to slot 2, whose length is the end of a loop.
 fn copies(number: usize, blocks: usize) -> Vec<Op> {
-    let mut ops = ops![NEW_COMPOSITE 5 b ARRAY, SET_LOCAL 2];
+    let mut inside = ops![NEW_COMPOSITE 5 b ARRAY, SET_LOCAL 2];
     for _ in 0..number {
-        ops.extend(ops![GET_LOCAL 2, SET_LOCAL 2]);
+        inside.extend(ops![GET_LOCAL 2, SET_LOCAL 2]);
     }
-    ops.extend(ops![CONST, SET_LOCAL, GET_LOCAL 2, LEN, SET_LOCAL 1]);
-    let start = ops.len();
-    let mut counted = vec![op(LOOP, 0, start + blocks + 11)];
-    counted.extend(header(0, 1));
-    counted.extend(tail(0, 0));
-    counted.push(op(END_LOOP, 0, 0));
-    ops.extend(ifs(start, blocks, counted));
-    own_targets(ops)
+    inside.extend(ops![CONST, SET_LOCAL, GET_LOCAL 2, LEN, SET_LOCAL 1]);
+    let start = blocks + inside.len();
+    inside.push(op(LOOP, 0, start + 11));
+    inside.extend(header(0, 1));
+    inside.extend(tail(0, 0));
+    inside.push(op(END_LOOP, 0, 0));
+    own_targets(ifs(0, blocks, inside))
 }
 
-/// The loop of `copies` counts from 1 to 5, 12 cycles each, with 5 for the break; before it stand 12 cycles and 2 for each copy.
+/// The loop of `copies` counts from 1 to 5, 12 cycles each, with 5 for the break; before it stand 12 cycles and 2 for each copy, around it 2 for each If.
 fn copies_cycles(number: usize, blocks: usize) -> usize {
     12 + 2 * number + 2 * blocks + 1 + 4 * 12 + 5
 }

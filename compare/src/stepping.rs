@@ -21,13 +21,17 @@ pub fn step_place(chunk: &Chunk, p: usize) -> Option<usize> {
     kinds.eq(TAIL).then_some(from + 1)
 }
 
-/// The step of the Loop at `p`, if there is an integer for it.
-fn step(chunk: &Chunk, p: usize) -> Option<i64> {
-    let index = chunk.ops[step_place(chunk, p)?].a;
+/// The constant of this index, if it is an integer.
+pub fn integer(chunk: &Chunk, index: u16) -> Option<i64> {
     match chunk.constants.get(usize::from(index))? {
         Constant::Int(value) => Some(*value),
         Constant::Other => None,
     }
+}
+
+/// The step of the Loop at `p`, if there is an integer for it.
+pub fn step(chunk: &Chunk, p: usize) -> Option<i64> {
+    integer(chunk, chunk.ops[step_place(chunk, p)?].a)
 }
 
 /// Whether the Loop at `p` steps by a greater number than 1: there alone the original's count may be another.
@@ -70,6 +74,11 @@ const NO_INTEGER: u16 = 2;
 /// The chunk in which the original has a count for just the loops of the range that have one by the request: every integer is 0, but the steps of those loops
 /// are 1. Refusals, endings and the stack depend on nothing else of a count.
 pub fn level(case: &Case, c: usize) -> bytecode::Chunk {
+    level_without(case, c, &[])
+}
+
+/// The same, and the loops at these positions have none.
+pub fn level_without(case: &Case, c: usize, none: &[usize]) -> bytecode::Chunk {
     let chunk = &case.module.chunks[c];
     let mut held = chunk.clone();
     held.constants = [0, 1].map(ConstValue::Int).to_vec();
@@ -82,7 +91,8 @@ pub fn level(case: &Case, c: usize) -> bytecode::Chunk {
         }
     }
     let (from, to) = document::range(&case.chunks[c]).unwrap_or_default();
-    for p in (from..to).filter(|&p| count(case, c, p).is_some()) {
+    let counted = |p: &usize| !none.contains(p) && count(case, c, *p).is_some();
+    for p in (from..to).filter(counted) {
         if let Some(place) = step_place(&case.chunks[c], p) {
             held.ops[place] = bytecode::Op::Const(ONE);
         }

@@ -84,16 +84,23 @@ fn ends(start: i64, step: i64) -> Vec<i64> {
     ends
 }
 
-/// What the documents say of chunk L with this count: of the count, of both walks and of the sheet. If EndLoop is open text, it is met behind the count.
-fn said(count: Option<u32>, open: bool) -> [Outcome; 4] {
+/// "Where the count is above 0, end - 1 + step must not exceed 2^63-1": request 2.8's condition that chunk L may break.
+fn is_sure(count: u32, stop: i64, step: i64) -> bool {
+    count == 0 || stop - 1 <= i64::MAX - step
+}
+
+/// What the documents say of chunk L with this count, sure or not: of the count, of both walks and of the sheet. If EndLoop is open text, it is met behind
+/// the count, and behind 16.
+fn said(count: Option<u32>, sure: bool, open: bool) -> [Outcome; 4] {
     let Some(count) = count else {
         return [0; 4].map(|_| Refused(NO_COUNT, 0, 4));
     };
     let figure = 12 + 12 * i64::from(count);
     let (cycles, mark) = (figure.min(CAP), i64::from(figure > CAP));
-    let walked = |numbers: &[i64]| match open {
-        true => Refused(OPEN_TEXT, 0, 14),
-        false => Answer(numbers.to_vec()),
+    let walked = |numbers: &[i64]| match (sure, open) {
+        (false, _) => Refused(UNSURE_COUNT, 0, 4),
+        (true, true) => Refused(OPEN_TEXT, 0, 14),
+        (true, false) => Answer(numbers.to_vec()),
     };
     [
         Answer(vec![i64::from(count)]),
@@ -104,7 +111,7 @@ fn said(count: Option<u32>, open: bool) -> [Outcome; 4] {
 }
 
 /// Chunk L with these constants, its EndLoop open text or not: ours is what is said, and all comparisons.
-fn chunk_l_with(counts: &mut Counts, constants: [i64; 3], open: bool) {
+pub fn chunk_l_with(counts: &mut Counts, constants: [i64; 3], open: bool) {
     let [start, stop, step] = constants;
     let mut held = chunk_l(&constants);
     if open {
@@ -118,7 +125,9 @@ fn chunk_l_with(counts: &mut Counts, constants: [i64; 3], open: bool) {
         table::stack(words, 0, &[]),
         table::sheet(words, ROW),
     ];
-    let said = said(passes(start, stop, step), open);
+    let count = passes(start, stop, step);
+    let sure = count.is_some_and(|count| is_sure(count, stop, step));
+    let said = said(count, sure, open);
     let names = ["count", "cycles", "stack", "sheet"];
     for (name, (ours, said)) in names.into_iter().zip(ours.iter().zip(&said)) {
         counts.comparisons += 1;
@@ -165,7 +174,7 @@ fn arrays(counts: &mut Counts) {
 }
 
 /// The chunk with other steps, drawn from those above, and some of its other integers far from the rest.
-fn drawn(mut held: Chunk, random: &mut Random) -> Chunk {
+pub fn drawn(mut held: Chunk, random: &mut Random) -> Chunk {
     for constant in &mut held.constants {
         if let Constant::Int(value) = constant
             && random.one_in(3)

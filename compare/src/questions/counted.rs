@@ -195,13 +195,14 @@ fn copies(list: &mut List) {
     both(list, "array copied twice", 5, twice);
 }
 
-/// The search for a value runs back past Stream.
+/// The search for a value runs back past Stream, and a count that rests on it is unsure.
 fn before_stream(list: &mut List) {
     let before = ops![
         CONST, SET_LOCAL, CONST 1, SET_LOCAL 1, STREAM, YIELD, YIELD, YIELD, YIELD, YIELD, YIELD
     ];
     let held = eleven(STREAMING, 2, before);
-    list.cycles("values before Stream", &held, 0).is(&[24, 0]);
+    list.cycles("values before Stream", &held, 0)
+        .refused(UNSURE_COUNT, 0, 11);
     list.count("values before Stream, chunk 0, count at 11", &held, 0, 11)
         .is(&[1]);
 }

@@ -10,23 +10,24 @@ const MIN: i64 = i64::MIN;
 const MAX: i64 = i64::MAX;
 const CAP: i64 = u32::MAX as i64;
 
-/// Chunk L's constants, start, end and step; and its count, its cycles and their mark.
-const COUNTED: [(Ends, [i64; 3]); 15] = [
-    ([0, 3, 1], [3, 48, 0]),
-    ([0, 3, 2], [2, 36, 0]),
-    ([0, 3, 3], [1, 24, 0]),
-    ([0, 3, 4], [1, 24, 0]),
-    ([0, 3, 1 << 62], [1, 24, 0]),
-    ([7, 7, MAX], [0, 12, 0]),
-    ([3, 0, 2], [0, 12, 0]),
-    ([MAX, MIN, 5], [0, 12, 0]),
-    ([0, 1 << 33, 1 << 33], [1, 24, 0]),
-    ([0, MAX, 1 << 62], [2, 36, 0]),
-    ([0, MAX, MAX], [1, 24, 0]),
-    ([0, MAX, MAX - 1], [2, 36, 0]),
-    ([-1, MAX - 1, MAX], [1, 24, 0]),
-    ([0, 8_589_934_590, 2], [CAP, CAP, 1]),
-    ([0, MAX, (1 << 31) + 1], [CAP, CAP, 1]),
+/// Chunk L's constants, start, end and step; its count; and its cycles and their mark, or none where the next sum may leave 64 bits: there request 2.8 refuses
+/// the cycle walk and the sheet by 16.
+const COUNTED: [(Ends, i64, Option<[i64; 2]>); 15] = [
+    ([0, 3, 1], 3, Some([48, 0])),
+    ([0, 3, 2], 2, Some([36, 0])),
+    ([0, 3, 3], 1, Some([24, 0])),
+    ([0, 3, 4], 1, Some([24, 0])),
+    ([0, 3, 1 << 62], 1, Some([24, 0])),
+    ([7, 7, MAX], 0, Some([12, 0])),
+    ([3, 0, 2], 0, Some([12, 0])),
+    ([MAX, MIN, 5], 0, Some([12, 0])),
+    ([0, 1 << 33, 1 << 33], 1, Some([24, 0])),
+    ([0, MAX, 1 << 62], 2, None),
+    ([0, MAX, MAX], 1, None),
+    ([0, MAX, MAX - 1], 2, None),
+    ([-1, MAX - 1, MAX], 1, None),
+    ([0, 8_589_934_590, 2], CAP, Some([CAP, 1])),
+    ([0, MAX, (1 << 31) + 1], CAP, None),
 ];
 
 /// Its constants where it has no count: the distance leaves 64 bits, the quotient 32, or the step is not over 0.
@@ -42,14 +43,21 @@ const UNCOUNTED: [Ends; 8] = [
 ];
 
 fn counted(list: &mut List) {
-    for (ends, [count, cycles, mark]) in COUNTED {
+    for (ends, count, figure) in COUNTED {
         let held = [chunk_l(&ends)];
         list.count(&format!("step: L with {ends:?}, count"), &held, 0, 4)
             .is(&[count]);
-        list.cycles(&format!("step: L with {ends:?}"), &held, 0)
-            .marked(&[cycles, 1], &[mark]);
-        list.sheet(&format!("step: L with {ends:?}, sheet"), &held)
-            .marked(&[cycles, 3, 160, cycles], &[mark]);
+        let name = format!("step: L with {ends:?}");
+        let walk = list.cycles(&name, &held, 0);
+        match figure {
+            Some([cycles, mark]) => walk.marked(&[cycles, 1], &[mark]),
+            None => walk.refused(UNSURE_COUNT, 0, 4),
+        }
+        let sheet = list.sheet(&format!("{name}, sheet"), &held);
+        match figure {
+            Some([cycles, mark]) => sheet.marked(&[cycles, 3, 160, cycles], &[mark]),
+            None => sheet.refused(UNSURE_COUNT, 0, 4),
+        }
     }
 }
 

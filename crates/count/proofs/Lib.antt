@@ -3,3 +3,4 @@ pub mod NeverLaws
 pub mod BoundLaws
 pub mod PassLaws
 pub mod CountLaws
+pub mod BalanceLaws

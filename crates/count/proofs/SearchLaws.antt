@@ -14,14 +14,14 @@ use Rattle.rules.specs.Kinds as K
 use Rattle.rules.specs.Outcome.{Found, found, nothing}
 use Rattle.rules.specs.Ops.{kind, field_a, op_at}
 use Rattle.rules.specs.Form.{Constant, other}
-use Rattle.rules.specs.Count.{Value, unknown, is_set_local, last_set, array_length, array_source, constant_value, value_at, value_before, value_of, len_source, length_before}
+use Rattle.rules.specs.Count.{Value, unknown, is_set_local, last_set, array_length, array_source, constant_value, value_at, value_before, len_source, length_before}
 use Rattle.words.specs.Values.{constant_is}
 use Rattle.words.proofs.Cases.{decide}
 use Rattle.words.proofs.OpLaws.{read_op}
-use Rattle.count.specs.Count.{value_is}
+use Rattle.count.specs.Count.{value_is, SetAt}
 
 -- what is defined at a later position by the op before it, told by the word that the code reads there
-at_later : {A : Type 0} (ops : List ℕ) (f : ℕ → A) (g : ℕ → ℕ → A) → ((i : ℕ) → f (suc i) ≡ g (op_at ops i) i) → (v : ℕ) → (v ≡ 0 → ⊥) → v ≤ length ops
+pub at_later : {A : Type 0} (ops : List ℕ) (f : ℕ → A) (g : ℕ → ℕ → A) → ((i : ℕ) → f (suc i) ≡ g (op_at ops i) i) → (v : ℕ) → (v ≡ 0 → ⊥) → v ≤ length ops
     → f v ≡ g (get_or ops (v - 1) 0) (v - 1)
 at_later ops f g is zero h b = absurd (h refl)
 at_later ops f g is (suc i) h b = is i ∙ rw (sub-one, read_op ops i (omega arith))
@@ -39,18 +39,11 @@ module _ (ops : List ℕ) (s : ℕ) where
   last_none i e = rw e
 
   -- a found position lies below the one that the search starts at
-  below_start : (n v : ℕ) → last_set ops n s ≡ found v → v < n
+  pub below_start : (n v : ℕ) → last_set ops n s ≡ found v → v < n
   unfolding last_set
   below_start zero v e = let z : ◌≡◌ {A = ℕ} 0 1 = cc in omega arith
   below_start (suc n) v e =
       decide (is_set_local s (op_at ops n)) (λ t. let z : n ≡ v = cc (rw t at e) in omega arith) (λ t. omega (arith, below_start n v (rw t at e)))
-
--- The search below n finds the slot's SetLocal at v, which is not the first op.
-pub record SetAt (ops : List ℕ) (n s v : ℕ) : Type 0 where
-  pub set : last_set ops n s ≡ found v
-  pub later : v ≡ 0 → ⊥
-  pub below : v < n
-  pub within : n ≤ length ops
 
 -- what a search that found the SetLocal says
 pub set_at : (ops : List ℕ) (n s v : ℕ) → found v ≡ last_set ops n s → (v ≡ 0 → ⊥) → n ≤ length ops → SetAt ops n s v
@@ -93,27 +86,28 @@ pub value_told : (r : Option ℤ) → value_is r ≡ constant_value (constant_is
 value_told (Some z) = refl
 value_told None = refl
 
--- the value of a slot whose SetLocal is found at v
-module _ (cs : List Constant) {ops : List ℕ} {n s v : ℕ} (h : SetAt ops n s v) where
+-- the value that the SetLocal at v gives
+module _ (cs : List Constant) (ops : List ℕ) (v : ℕ) (later : v ≡ 0 → ⊥) (within : v < length ops) where
   -- by the op before the SetLocal
-  by_kind : value_of cs ops n s ≡ value_before (eqb (kind (get_or ops (v - 1) 0)) K.const) cs ops (v - 1)
-  by_kind = rw h.set
-      (at_later ops (λ j. value_at cs ops (found j)) (λ w j. value_before (eqb (kind w) K.const) cs ops j) (λ j. refl) v h.later (omega arith))
+  by_kind : value_at cs ops (found v) ≡ value_before (eqb (kind (get_or ops (v - 1) 0)) K.const) cs ops (v - 1)
+  by_kind = at_later ops (λ j. value_at cs ops (found j)) (λ w j. value_before (eqb (kind w) K.const) cs ops j) (λ j. refl) v later (omega arith)
 
   -- that op is Const
-  pub value_constant : eqb (kind (get_or ops (v - 1) 0)) K.const ≡ true → value_of cs ops n s ≡ constant_value (get_or cs (field_a (get_or ops (v - 1) 0)) other)
+  pub value_constant : eqb (kind (get_or ops (v - 1) 0)) K.const ≡ true
+      → value_at cs ops (found v) ≡ constant_value (get_or cs (field_a (get_or ops (v - 1) 0)) other)
   value_constant k = rw (by_kind, k, read_op ops (v - 1) (omega arith))
 
   -- that op is Len, and there is one before it
   module _ (k : eqb (kind (get_or ops (v - 1) 0)) K.const ≡ false) (g : v ≡ 1 → ⊥) (l : eqb (kind (get_or ops (v - 1) 0)) K.len ≡ true) where
     -- by the op before Len
-    by_get : value_of cs ops n s ≡ length_before (eqb (kind (get_or ops (v - 2) 0)) K.get_local) ops (v - 2)
-    by_get = by_kind ∙ rw (k, before_len ops v h.later g (omega arith), l)
+    by_get : value_at cs ops (found v) ≡ length_before (eqb (kind (get_or ops (v - 2) 0)) K.get_local) ops (v - 2)
+    by_get = by_kind ∙ rw (k, before_len ops v later g (omega arith), l)
 
     -- which is not GetLocal
-    pub value_no_get : eqb (kind (get_or ops (v - 2) 0)) K.get_local ≡ false → value_of cs ops n s ≡ unknown
+    pub value_no_get : eqb (kind (get_or ops (v - 2) 0)) K.get_local ≡ false → value_at cs ops (found v) ≡ unknown
     value_no_get m = rw (by_get, m)
 
     -- or is GetLocal
-    pub value_length : eqb (kind (get_or ops (v - 2) 0)) K.get_local ≡ true → value_of cs ops n s ≡ array_length ops (v - 2) (field_a (get_or ops (v - 2) 0))
+    pub value_length : eqb (kind (get_or ops (v - 2) 0)) K.get_local ≡ true
+        → value_at cs ops (found v) ≡ array_length ops (v - 2) (field_a (get_or ops (v - 2) 0))
     value_length m = rw (by_get, m, read_op ops (v - 2) (omega arith))

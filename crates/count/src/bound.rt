@@ -4,8 +4,9 @@ ghost use Rattle.rules.specs.Form.{other};
 ghost use Rattle.rules.specs.Reading.{constants_of};
 ghost use Rattle.rules.specs.Count.{has_header, has_increment, has_tail, never_sets, is_positive, passes, count_at};
 ghost use Rattle.words.specs.Found.{found_of};
+ghost use Rattle.count.specs.Count.{passes_found, BoundIs};
 
-use crate::search::{has_slot, never_sets, op_at, trace_const_set_local};
+use crate::search::{Traced, has_slot, never_sets, op_at, trace_const_set_local};
 use words::chunk::Chunk;
 use words::fields;
 use words::fields::is;
@@ -75,9 +76,19 @@ fn passes_of(start: i64, stop: i64, step: u64) -> Option<u32>
     u32::try_from((distance as u64).div_ceil(step)).ok()
 }
 
+// A loop's count and what it is of: where the searches of its start and of its end stopped, the end's value, and the step.
+#[derive(Clone, Copy, Debug, PartialEq, Eq)]
+pub struct Bound {
+    pub passes: u32,
+    pub start: usize,
+    pub stop: Traced,
+    pub step: i64,
+}
+
 // The count of the loop at p, if it has one.
-pub fn extract_loop_iteration_bound(chunk: &Chunk<'_>, p: usize) -> Option<u32>
-    ensures { found_of result ≡ count_at (constants_of chunk.now.constants.now) chunk.now.ops.now p }
+pub fn bound_at(chunk: &Chunk<'_>, p: usize) -> Option<Bound>
+    ensures passes { passes_found result ≡ count_at (constants_of chunk.now.constants.now) chunk.now.ops.now p }
+    ensures bound { BoundIs (constants_of chunk.now.constants.now) chunk.now.ops.now p result }
 {
     let ops = chunk.ops;
     if ops.len() <= p || !has_header(chunk, p) {
@@ -98,12 +109,21 @@ pub fn extract_loop_iteration_bound(chunk: &Chunk<'_>, p: usize) -> Option<u32>
     let Some(stop) = last else {
         return None;
     };
-    let added = constant_at(
-        chunk.constants,
-        (op_at(ops, target - 5) % fields::B_UNIT) as usize,
-    );
-    let Some(step) = added else {
-        return None;
-    };
-    passes_of(start, stop, step as u64)
+    let i = (op_at(ops, target - 5) % fields::B_UNIT) as usize;
+    let step = constant_at(chunk.constants, i)?;
+    let passes = passes_of(start.value, stop.value, step as u64)?;
+    Some(Bound {
+        passes,
+        start: start.at,
+        stop,
+        step,
+    })
+}
+
+// Its passes alone.
+pub fn extract_loop_iteration_bound(chunk: &Chunk<'_>, p: usize) -> Option<u32>
+    ensures { found_of result ≡ count_at (constants_of chunk.now.constants.now) chunk.now.ops.now p }
+{
+    let bound = bound_at(chunk, p)?;
+    Some(bound.passes)
 }

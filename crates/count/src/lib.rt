@@ -5,3 +5,4 @@
 pub mod bound;
 pub mod entry;
 pub mod search;
+pub mod sure;

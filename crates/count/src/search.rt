@@ -1,11 +1,12 @@
 // Searches that run backward over the ops of a chunk.
-ghost use Rattle.std.specs.Prelude.{◌≡◌, ◌&&◌, ◌+◌, ◌≤◌, eqb, length};
+ghost use Rattle.std.specs.Prelude.{◌≡◌, ◌&&◌, ◌+◌, ◌<◌, ◌≤◌, eqb, length};
 ghost use Rattle.rules.specs.Ops.{kind, field_a, op_at};
 ghost use Rattle.rules.specs.Reading.{constants_of};
-ghost use Rattle.rules.specs.Count.{never_sets, last_set, array_length, value_of};
+ghost use Rattle.rules.specs.Outcome.{found};
+ghost use Rattle.rules.specs.Count.{never_sets, last_set, array_length, value_at, value_of};
 ghost use Rattle.words.specs.Kinds.{kind_number};
 ghost use Rattle.words.specs.Found.{found_of};
-ghost use Rattle.count.specs.Count.{value_is};
+ghost use Rattle.count.specs.Count.{value_is, traced_is, StopsAt};
 
 use words::fields;
 use words::fields::is;
@@ -88,7 +89,7 @@ pub fn trace_literal_array_length(ops: &[u32], before: usize, slot: u32) -> Opti
     requires { before ≤ length ops.now }
     ensures { value_is result ≡ array_length ops.now before slot }
 {
-    // Document 01 names this form in each search: what was found or not is in a local, taken apart by `let .. else`. So the search below begins alike.
+    // Document 01 names this form in each search: what was found or not is in a local, taken apart by `let .. else`.
     let found = last_set(ops, before, slot, false);
     let Some(at) = found else {
         return None;
@@ -106,21 +107,18 @@ pub fn trace_literal_array_length(ops: &[u32], before: usize, slot: u32) -> Opti
     None
 }
 
-// The value of a slot below `before`: right before its SetLocal stands Const of an integer, or GetLocal of an array and then Len.
-pub fn trace_const_set_local(
-    constants: &[u32],
-    ops: &[u32],
-    before: usize,
-    slot: u32,
-) -> Option<i64>
-    requires { before ≤ length ops.now }
-    ensures { value_is result ≡ value_of (constants_of constants.now) ops.now before slot }
+// The value of a slot, and the position of the SetLocal that gave it.
+#[derive(Clone, Copy, Debug, PartialEq, Eq)]
+pub struct Traced {
+    pub value: i64,
+    pub at: usize,
+}
+
+// What a slot is set to at `at`: right before that SetLocal stands Const of an integer, or GetLocal of an array and then Len.
+fn value_at(constants: &[u32], ops: &[u32], at: usize) -> Option<i64>
+    requires { at < length ops.now }
+    ensures { value_is result ≡ value_at (constants_of constants.now) ops.now (found at) }
 {
-    // Document 01 names this form in each search: what was found or not is in a local, taken apart by `let .. else`. So the search above begins alike.
-    let found = last_set(ops, before, slot, true);
-    let Some(at) = found else {
-        return None;
-    };
     if at == 0 {
         return None;
     }
@@ -136,4 +134,27 @@ pub fn trace_const_set_local(
         return None;
     }
     trace_literal_array_length(ops, at - 2, array % fields::B_UNIT)
+}
+
+// The value of a slot below `before`, by its last SetLocal there.
+pub fn trace_const_set_local(
+    constants: &[u32],
+    ops: &[u32],
+    before: usize,
+    slot: u32,
+) -> Option<Traced>
+    requires { before ≤ length ops.now }
+    ensures value { traced_is result ≡ value_of (constants_of constants.now) ops.now before slot }
+    ensures stop { StopsAt ops.now before slot result }
+{
+    // Document 01 names this form in each search: what was found or not is in a local, taken apart by `let .. else`.
+    let found = last_set(ops, before, slot, true);
+    let Some(at) = found else {
+        return None;
+    };
+    let given = value_at(constants, ops, at);
+    let Some(value) = given else {
+        return None;
+    };
+    Some(Traced { value, at })
 }

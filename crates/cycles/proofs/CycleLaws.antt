@@ -46,9 +46,10 @@ pub saturated : (n r : ℕ) → r ≡ min n (2 ^ 64 - 1) → r ≡ cut n
 saturated n r e = omega arith
 
 -- an empty stretch costs nothing more
-pub region_end : (c : F.Chunk) (wholes : List ℕ) (i to left cost : ℕ) (b : R.Breaks) → i ≡ to → ok (costs cost false b) ≡ region_cost c wholes i to left cost b
+pub region_end : (c : F.Chunk) (wholes : List ℕ) (start i to left cost : ℕ) (b : R.Breaks) → i ≡ to
+    → ok (costs cost false b) ≡ region_cost c wholes start i to left cost b
 unfolding row_cost
-region_end c wholes i to left cost b e = rw (e, tree_empty (op_at c.ops) to)
+region_end c wholes start i to left cost b e = rw (e, tree_empty (op_at c.ops) to)
 
 module _ (k : Chunk) (wholes : List ℕ) where
   -- the chunk in document 01
@@ -92,17 +93,17 @@ module _ (k : Chunk) (wholes : List ℕ) where
       go true n x y p q h = absurd (let z : ◌≡◌ {A = ℕ} 0 1 = cc in omega arith)
       go false n x y p q h = let z : n + x ≡ d = cc in ap ok (omega arith)
 
-  module _ (i to left cost : ℕ) (b : R.Breaks) where
+  module _ (start i to left cost : ℕ) (b : R.Breaks) where
     -- an op whose charge is refused refuses the row, whatever op it is
     pub region_refused : (n p : ℕ) → HasRow (op_at k.ops.now) true i to → i < to → R.charge_of C [] i ≡ no n p
-        → region_cost C wholes i to left cost b ≡ no n p
+        → region_cost C wholes start i to left cost b ≡ no n p
     unfolding row_cost
     region_refused n p h lt none = go (shape_of (op_at k.ops.now i)) (opened (op_at k.ops.now) true i to h lt)
       where
         e : R.charge_of C wholes i ≡ no n p
         e = refused_too i n p none
 
-        go : (s : Shape) → OpensAs (op_at k.ops.now) true i to s → region_cost C wholes i to left cost b ≡ no n p
+        go : (s : Shape) → OpensAs (op_at k.ops.now) true i to s → region_cost C wholes start i to left cost b ≡ no n p
         go plain o = rw (o.tree, e)
         go trap o = rw (o.tree, e)
         go returns o = rw (o.tree, e)

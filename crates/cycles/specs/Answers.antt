@@ -4,7 +4,7 @@ use Rattle.rules.specs.Outcome.{Result, ok, no}
 use Rattle.rules.specs.Ops.{op_at}
 use Rattle.rules.specs.Form.{Chunk}
 use Rattle.rules.specs.Reading.{extras_of}
-use Rattle.rules.specs.Count.{count_of}
+use Rattle.rules.specs.Placed.{placed_count}
 use Rattle.rules.specs.Cycles as R
 use Rattle.rows.specs.Tree.{tree_of}
 use Rattle.cycles.specs.declared.region.Cost.{Cost}
@@ -33,11 +33,12 @@ charge_at ops extras i = cap_charge (R.charge_of (charged ops extras) [] i)
 abbrev pub cost_of : Cost → R.Cost
 cost_of c = R.costs c.cycles c.ends (breaks_of c.breaks)
 
--- the walk of the positions from i up to `to` of a chunk over its callees' whole figures, with so many levels left, from a cost and breaks
-abbrev pub region_cost : Chunk → List ℕ → ℕ → ℕ → ℕ → ℕ → R.Breaks → Result R.Cost
-region_cost c wholes i to left cost breaks =
-    R.row_cost (min wide_cap) (R.charge_of c wholes) (count_of c) (tree_of (op_at c.ops) i to) left cost breaks
+-- the walk of the positions from i up to `to` of a chunk over its callees' whole figures, in a range that begins at `start`, with so many levels left, from a
+-- cost and breaks
+abbrev pub region_cost : Chunk → List ℕ → ℕ → ℕ → ℕ → ℕ → ℕ → R.Breaks → Result R.Cost
+region_cost c wholes start i to left cost breaks =
+    R.row_cost (min wide_cap) (R.charge_of c wholes) (placed_count c start) (tree_of (op_at c.ops) i to) left cost breaks
 
 -- the same of a body, one level deeper
-abbrev pub part_cost : Chunk → List ℕ → ℕ → ℕ → ℕ → R.Breaks → Result R.Cost
-part_cost c wholes i to left breaks = R.inner left (λ l. region_cost c wholes i to l 0 breaks)
+abbrev pub part_cost : Chunk → List ℕ → ℕ → ℕ → ℕ → ℕ → R.Breaks → Result R.Cost
+part_cost c wholes start i to left breaks = R.inner left (λ l. region_cost c wholes start i to l 0 breaks)

@@ -42,7 +42,7 @@ impl From<Cost> for Figure {
     }
 }
 
-// The walk of a row, with 256 levels of nesting, over its callees' whole figures: its figure, or refusal 7 to 9.
+// The walk of a row, with 256 levels of nesting, over its callees' whole figures: its figure, or refusal 7, 8, 9 or 16.
 pub fn wcet_region(chunk: &Chunk<'_>, wholes: &[u32], row: Range) -> Result<Figure, Fault>
     requires { RowFits chunk.now.ops.now row.from row.to }
     ensures { result_of figure_of result ≡ range_cycles (chunk_of chunk.now) wholes.now row.from row.to }
@@ -55,7 +55,7 @@ pub fn wcet_region(chunk: &Chunk<'_>, wholes: &[u32], row: Range) -> Result<Figu
     Ok(Figure::from(cost))
 }
 
-// The cycle walk of a chunk: 3, 4, 5, 6, 15, and 7 to 9 as the walk meets them. No callee is charged.
+// The cycle walk of a chunk: 3, 4, 5, 6, 15, and 7, 8, 9, 16 as the walk meets them. No callee is charged.
 fn chunk_cycles(chunk: &Chunk<'_>) -> Result<Figure, Fault>
     ensures { result_of figure_of result ≡ chunk_cycles (chunk_of chunk.now) }
 {
@@ -63,7 +63,7 @@ fn chunk_cycles(chunk: &Chunk<'_>) -> Result<Figure, Fault>
     wcet_region(chunk, &[], row)
 }
 
-// The cycle walk of chunk c: its figure, or refusal 1, 2, 12, 3 to 9 or 15.
+// The cycle walk of chunk c: its figure, or refusal 1, 2, 12, 3 to 9, 15 or 16.
 pub fn cycle_walk(words: &[u32], c: usize) -> Result<Figure, Refused>
     ensures { outcome_of figure_of result ≡ cycles_outcome words.now c }
 {

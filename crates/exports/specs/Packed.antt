@@ -18,7 +18,7 @@ places = 4294967296
 abbrev pub number_unit : ℕ
 number_unit = chunks * places
 
--- A refusal: number, chunk and place in 8, 24 and 32 bits. Numbers are 1 to 15, chunks and positions of a module end at 16,384; a chunk or a position that
+-- A refusal: number, chunk and place in 8, 24 and 32 bits. Numbers are 1 to 16, chunks and positions of a module end at 16,384; a chunk or a position that
 -- is handed in is kept modulo 2^24 and 2^32. No answer reaches the bits of the number.
 abbrev pub packed_refusal : ℕ → ℕ → ℕ → ℕ
 packed_refusal n c p = n % numbers * number_unit + c % chunks * places + p % places

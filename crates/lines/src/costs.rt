@@ -32,8 +32,8 @@ fn calls_none(ops: &[u32]) -> bool
     none
 }
 
-// The cycle walk of a row without its callees, and then over their whole figures, or refusal 7 to 9. Where no op is a Call, the second walk is left out: it would
-// give the same.
+// The cycle walk of a row without its callees, and then over their whole figures, or refusal 7, 8, 9 or 16. Where no op is a Call, the second walk is left
+// out: it would give the same.
 pub fn chunk_costs(chunk: &Chunk<'_>, wholes: &[u32], row: Range) -> Result<Both, Fault>
     requires { RowFits chunk.now.ops.now row.from row.to }
     ensures { result_of (λ b. b) result ≡ both_costs (chunk_of chunk.now) wholes.now row.from row.to }

@@ -13,6 +13,7 @@ use Rattle.rules.specs.Form.{integer, Chunk, module_words}
 use Rattle.rules.specs.Reading.{broken_at, take_while, drop_while, constants_of, extras_of, chunks_of}
 use Rattle.rules.specs.Rows.{parse, first_backward, stray_break}
 use Rattle.rules.specs.Count.{last_set, never_sets}
+use Rattle.rules.specs.Sure.{holds, in_part, all_in_row}
 use Rattle.rules.specs.Limits.{cycle_cap}
 use Rattle.rules.specs.Cycles.{row_cost}
 use Rattle.rules.specs.Stack.{row_height}
@@ -56,7 +57,7 @@ numbers =
     }
 
 pub witness_accepted : Accepted (module_words pair) 10 pair numbers
-unfolding flat_map in_groups broken_at take_while drop_while constants_of extras_of chunks_of parse first_backward stray_break last_set never_sets row_cost row_height member callees_in visit_each visit up_from lines_in
+unfolding flat_map in_groups broken_at take_while drop_while constants_of extras_of chunks_of parse first_backward stray_break last_set never_sets holds in_part all_in_row row_cost row_height member callees_in visit_each visit up_from lines_in
 witness_accepted = record { reads = refl; answers = refl }
 
 -- The ops up to Loop; a pass by the If's arm; a pass by Else's; the break by the header, and Return. In each pass n ops of the callee are run.

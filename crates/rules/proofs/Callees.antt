@@ -16,7 +16,7 @@ use Rattle.rules.specs.Ops.{kind, field_a, figures_of, op_at}
 use Rattle.rules.specs.Form.{Chunk}
 use Rattle.rules.specs.Reading.{extra_at}
 use Rattle.rules.specs.Rows.{Row}
-use Rattle.rules.specs.Count.{count_of}
+use Rattle.rules.specs.Sure.{sure_count_of}
 use Rattle.rules.specs.Cycles.{unbroken, text_charge, callee_whole, charge_of, row_cost, exact_cost}
 use Rattle.rules.specs.Order.{chunk_at}
 use Rattle.rules.specs.Sheet.{no_line, Sheet, sheet_of}
@@ -51,12 +51,13 @@ module _ (c : Chunk) (wholes : List ℕ) where
 
   pub callees_add : (r : Row) → Below never LessCost (exact_cost c [] r) (exact_cost c wholes r)
   callees_add r =
-      walk_below never (charge_of c []) (charge_of c wholes) (count_of c) (count_of c) charge_below (λ p. same_below never less_n (λ n. omega arith) (count_of c p)) r deepest 0 0 unbroken unbroken (omega arith) tt
+      walk_below never (charge_of c []) (charge_of c wholes) (sure_count_of c r) (sure_count_of c r) charge_below
+      (λ p. same_below never less_n (λ n. omega arith) (sure_count_of c r p)) r deepest 0 0 unbroken unbroken (omega arith) tt
 
   -- where no op is charged for a callee
   pub callees_free : ((i : ℕ) → callee_whole wholes (op_at c.ops i) ≡ 0) → (r : Row) → exact_cost c wholes r ≡ exact_cost c [] r
   callees_free free r =
-      ap (λ (f : ℕ → Result ℕ). row_cost (λ n. n) f (count_of c) r deepest 0 unbroken)
+      ap (λ (f : ℕ → Result ℕ). row_cost (λ n. n) f (sure_count_of c r) r deepest 0 unbroken)
       (fun_ext same)
     where
       same : (i : ℕ) → charge_of c wholes i ≡ charge_of c [] i

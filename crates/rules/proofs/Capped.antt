@@ -1,5 +1,5 @@
--- For any cap: capping each sum, product and greatest on the way gives what capping once at the end gives; so for the whole cycle walk; and a walk under any cap
--- above 4,294,967,295 has the answer's figure and its mark.
+-- For any cap: capping each sum, product and greatest on the way gives what capping once at the end gives; so for the whole cycle walk; and a walk under any
+-- cap above 4,294,967,295 has the answer's figure and its mark.
 -- Assumes nothing.
 use mathlib.Core.Path.{◌≡◌, refl, ap, ◌∙◌}
 use mathlib.Core.Bool.{Bool, true, false, ◌&&◌}
@@ -12,7 +12,7 @@ use lib.Dec.{leb, ltb}
 use Rattle.rules.specs.Outcome.{Result, ok, no, and_then}
 use Rattle.rules.specs.Form.{Chunk}
 use Rattle.rules.specs.Rows.{Row, end, step, stop, leave, leave_if, if_then, if_else, loop}
-use Rattle.rules.specs.Count.{count_of}
+use Rattle.rules.specs.Sure.{sure_count_of}
 use Rattle.rules.specs.Limits.{deepest, cycle_cap}
 use Rattle.rules.specs.Cycles.{Breaks, unbroken, costliest, note_break, break_cost, Cost, costs, inner, unless_ends, one_pass, passes_cost, row_cost, charge_of, exact_cost, capped_cost, cycles_of, row_cycles}
 
@@ -136,7 +136,7 @@ module _ (cap : ℕ) (charge count : ℕ → Result ℕ) where
 pub chunk_capped : (cap : ℕ) (c : Chunk) (wholes : List ℕ) (r : Row) → capped_cost cap c wholes r ≡ cap_result cap (exact_cost c wholes r)
 chunk_capped cap c wholes r =
     let z : min cap 0 ≡ 0 = omega arith in
-    rw z at (walk_capped cap (charge_of c wholes) (count_of c) r deepest 0 unbroken)
+    rw z at (walk_capped cap (charge_of c wholes) (sure_count_of c r) r deepest 0 unbroken)
 
 -- a number that was cut at a wider cap is cut at a cap to the same figure, and is greater than that cap exactly if the number is
 pub cut_wider : (cap wider n : ℕ) → cap < wider → (min cap (min wider n) ≡ min cap n) × (ltb cap (min wider n) ≡ ltb cap n)

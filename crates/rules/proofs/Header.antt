@@ -7,6 +7,7 @@ use native.Mathlib.Omega.{arith}
 use native.Mathlib.Numerals.{add-one, add-two, add-three, add-four}
 use borrow.Author.Tests.{eqb-true}
 use lib.Dec.{eqb}
+use Rattle.rules.specs.Kinds as K
 use Rattle.rules.specs.Ops.{kind, op_at}
 use Rattle.rules.specs.Rows.{plain, end_loop, breaks_if, shape_of, Row, end, step, stop, leave, leave_if, if_then, if_else, loop, IsRow}
 use Rattle.rules.specs.Count.{has_header}
@@ -34,27 +35,43 @@ pub record Tested (op : ℕ → ℕ) (i : ℕ) : Type 0 where
   pub third : shape_of (op (next3 i)) ≡ plain
   pub fourth : shape_of (op (next4 i)) ≡ breaks_if
 
-load_shape : (w : ℕ) → kind w ≡ 1 → shape_of w ≡ plain
+pub load_shape : (w : ℕ) → kind w ≡ K.get_local → shape_of w ≡ plain
 load_shape w h = simp h
 
-compare_shape : (w : ℕ) → kind w ≡ 19 → shape_of w ≡ plain
+pub compare_shape : (w : ℕ) → kind w ≡ K.cmp_ge → shape_of w ≡ plain
 compare_shape w h = simp h
 
-test_shape : (w : ℕ) → kind w ≡ 27 → shape_of w ≡ breaks_if
+pub test_shape : (w : ℕ) → kind w ≡ K.break_if → shape_of w ≡ breaks_if
 test_shape w h = simp h
+
+-- and their kinds
+pub record HeaderKinds (op : ℕ → ℕ) (p : ℕ) : Type 0 where
+  pub first : kind (op (p + 1)) ≡ K.get_local
+  pub second : kind (op (p + 2)) ≡ K.get_local
+  pub third : kind (op (p + 3)) ≡ K.cmp_ge
+  pub fourth : kind (op (p + 4)) ≡ K.break_if
+
+pub header_kinds : (ops : List ℕ) (p : ℕ) → has_header ops p ≡ true → HeaderKinds (op_at ops) p
+header_kinds ops p h =
+    let k : ℕ → ℕ = λ i. kind (op_at ops i) in
+    let opens = eqb (k p) K.loop in
+    let loads = eqb (k (p + 1)) K.get_local in
+    let again = eqb (k (p + 2)) K.get_local in
+    let compares = eqb (k (p + 3)) K.cmp_ge in
+    let a = both (opens && loads && again && compares) (eqb (k (p + 4)) K.break_if) h in
+    let b = both (opens && loads && again) compares a.0 in
+    let c = both (opens && loads) again b.0 in
+    let d = both opens loads c.0 in
+    record { first = eqb-true _ _ d.1; second = eqb-true _ _ c.1; third = eqb-true _ _ b.1; fourth = eqb-true _ _ a.1 }
 
 pub header_tested : (ops : List ℕ) (p : ℕ) → has_header ops p ≡ true → Tested (op_at ops) p
 header_tested ops p h =
-    let k : ℕ → ℕ = λ i. kind (op_at ops i) in
-    let a = both (eqb (k p) 24 && eqb (k (p + 1)) 1 && eqb (k (p + 2)) 1 && eqb (k (p + 3)) 19) (eqb (k (p + 4)) 27) h in
-    let b = both (eqb (k p) 24 && eqb (k (p + 1)) 1 && eqb (k (p + 2)) 1) (eqb (k (p + 3)) 19) a.0 in
-    let c = both (eqb (k p) 24 && eqb (k (p + 1)) 1) (eqb (k (p + 2)) 1) b.0 in
-    let d = both (eqb (k p) 24) (eqb (k (p + 1)) 1) c.0 in
+    let k = header_kinds ops p h in
     record {
-      first = rw (← add-one p) (load_shape (op_at ops (p + 1)) (eqb-true _ _ d.1));
-      second = rw (← add-two p) (load_shape (op_at ops (p + 2)) (eqb-true _ _ c.1));
-      third = rw (← add-three p) (compare_shape (op_at ops (p + 3)) (eqb-true _ _ b.1));
-      fourth = rw (← add-four p) (test_shape (op_at ops (p + 4)) (eqb-true _ _ a.1));
+      first = rw (← add-one p) (load_shape (op_at ops (p + 1)) k.first);
+      second = rw (← add-two p) (load_shape (op_at ops (p + 2)) k.second);
+      third = rw (← add-three p) (compare_shape (op_at ops (p + 3)) k.third);
+      fourth = rw (← add-four p) (test_shape (op_at ops (p + 4)) k.fourth);
     }
 
 -- what the header of the loop at i costs

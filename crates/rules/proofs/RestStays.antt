@@ -1,5 +1,6 @@
 -- Requests 2.1 and 2.5 leave the rest of the sheet as it was: the refusals, the order, and of each line the cycles, peak and bytes are those of document 01's
--- sheet, which works out no whole figure, has no mark, and whose sums and products all stop at the cap. Assumes nothing.
+-- sheet, which works out no whole figure, has no mark, and whose sums and products all stop at the cap. Counts are those of 2.7, and 2.8's refusal is in both.
+-- Assumes nothing.
 use mathlib.Core.Path.{◌≡◌, refl, sym, ap, ◌∙◌}
 use mathlib.Core.List.{List, [], ◌∷◌, map}
 use mathlib.Core.Logic.{inl, inr}

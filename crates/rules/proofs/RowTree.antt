@@ -269,6 +269,17 @@ range_forward c g e = go (eqb c.type K.stream_type) e
     go true e = ends (first_of 28 c.ops 0) (first_of 29 c.ops 0) e
     go false e = let a : g.from ≡ 0 = cc in omega arith
 
+-- a row goes forward
+pub row_forward : (op : ℕ → ℕ) (r : Row) (l : Bool) (i to : ℕ) → IsRow op l i to r → i ≤ to
+row_forward op end l i to w = omega arith
+row_forward op (step j r) l i to w = omega (arith, row_forward op r l (suc i) to w.3)
+row_forward op (stop j r) l i to w = omega (arith, row_forward op r l (suc i) to w.3)
+row_forward op (leave j r) l i to w = omega (arith, row_forward op r l (suc i) to w.4)
+row_forward op (leave_if j r) l i to w = omega (arith, row_forward op r l (suc i) to w.4)
+row_forward op (if_then j t p r) l i to w = omega arith
+row_forward op (if_else j e t p q r) l i to w = omega arith
+row_forward op (loop j e b r) l i to w = omega arith
+
 -- the row is the tree of the chunk's range
 pub record InRange (c : Chunk) (r : Row) : Type 0 where
   pub forward : (range_found (range_of c)).from ≤ (range_found (range_of c)).to

@@ -4,7 +4,7 @@ use mathlib.Core.Path.{◌≡◌, refl}
 use mathlib.Core.Bool.{Bool, true, false, cond}
 use Prim.Native.Nat.{ℕ, zero, suc, ◌+◌, ◌-◌, ◌≤◌, max}
 use native.Mathlib.Omega.{arith}
-use borrow.Author.Tests.{leb-true, ltb-true, ltb-false, le-leb, lt-leb}
+use borrow.Author.Tests.{leb-true, leb-false, ltb-true, ltb-false, le-leb, lt-leb}
 use lib.Dec.{ltb}
 use lib.IntN.{ℤ, pos, negsuc, neg_ℤ, ◌+ℤ◌, sub_ℕ}
 use lib.Signed.{lt_z, le_z}
@@ -79,6 +79,12 @@ not_less_parts (pos a) (pos b) e = omega (arith, ltb-false a b e)
 not_less_parts (pos a) (negsuc b) e = omega arith
 not_less_parts (negsuc a) (pos b) e = absurd (let z : ◌≡◌ {A = ℕ} 0 1 = cc in omega arith)
 not_less_parts (negsuc a) (negsuc b) e = omega (arith, ltb-false b a e)
+
+pub not_le_parts : (a b : ℤ) → le_z a b ≡ false → suc (at_least_zero b + under a) ≤ at_least_zero a + under b
+not_le_parts (pos a) (pos b) e = omega (arith, leb-false a b e)
+not_le_parts (pos a) (negsuc b) e = omega arith
+not_le_parts (negsuc a) (pos b) e = absurd (let z : ◌≡◌ {A = ℕ} 0 1 = cc in omega arith)
+not_le_parts (negsuc a) (negsuc b) e = omega (arith, leb-false b a e)
 
 -- the greater of two numbers is at least both, and above 0 by no more than one of them
 pub record Greatest (a b m : ℤ) : Type 0 where

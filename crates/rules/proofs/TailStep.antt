@@ -1,11 +1,12 @@
--- The step of a counted loop: the constant of a tail is an integer over 0, so that the loop's count is at most that for a step of 1. Assumes nothing.
+-- The tail of a counted loop, op by op, and its step: the constant of a tail is an integer over 0, so that the loop's count is at most that for a step of 1.
+-- Assumes nothing.
 use mathlib.Core.Path.{◌≡◌, refl}
 use mathlib.Core.Bool.{Bool, true, false, ◌&&◌}
 use mathlib.Core.List.{List}
 use mathlib.Core.Logic.{inr}
 use Prim.Native.Nat.{ℕ, ◌+◌, ◌-◌, ◌<◌, ◌≤◌}
 use native.Mathlib.Omega.{arith}
-use borrow.Author.Tests.{ltb-true, leb-true}
+use borrow.Author.Tests.{eqb-true, ltb-true, leb-true}
 use lib.Dec.{eqb, leb}
 use lib.IntN.{ℤ, pos, negsuc}
 use Rattle.rules.specs.Kinds as K
@@ -27,24 +28,62 @@ positive_step (integer (pos n)) h = (refl, ltb-true 0 n h)
 positive_step (integer (negsuc n)) h = absurd (let z : ◌≡◌ {A = ℕ} 0 1 = cc in omega arith)
 positive_step other h = absurd (let z : ◌≡◌ {A = ℕ} 0 1 = cc in omega arith)
 
--- what a tail says: where it is, and its constant
-module _ (cs : List Constant) (ops : List ℕ) (p n v e : ℕ) (h : has_tail cs ops p n v e ≡ true) where
-  closed : ((leb (p + 10) n && eqb (kind (op_at ops n)) K.end_loop) && has_increment cs ops n v) ≡ true
-  closed =
-      let sets = (both _ (never_sets ops v (n - (p + 6)) (p + 5)) h).0 in
-      (both _ (never_sets ops e (n - (p + 5)) (p + 5)) sets).0
+-- The tail of the loop at p, EndLoop at n.
+module _ (cs : List Constant) (ops : List ℕ) (p n v e : ℕ) where
+  -- what it says, op by op: EndLoop is far enough, the five ops before it, and that nothing else sets v or e
+  pub record TailOps : Type 0 where
+    pub far : p + 10 ≤ n
+    pub closes : kind (op_at ops n) ≡ K.end_loop
+    pub load : is_get_local v (op_at ops (n - 5)) ≡ true
+    pub const : kind (op_at ops (n - 4)) ≡ K.const
+    pub step : IsStep (tail_constant cs ops n)
+    pub add : kind (op_at ops (n - 3)) ≡ K.checked_add
+    pub drop : kind (op_at ops (n - 2)) ≡ K.pop_n
+    pub two : field_b (op_at ops (n - 2)) ≡ 2
+    pub set : is_set_local v (op_at ops (n - 1)) ≡ true
+    pub end_unset : never_sets ops e (n - (p + 5)) (p + 5) ≡ true
+    pub unset : never_sets ops v (n - (p + 6)) (p + 5) ≡ true
 
-  pub tail_far : p + 10 ≤ n
-  tail_far = leb-true (p + 10) n (both (leb (p + 10) n) (eqb (kind (op_at ops n)) K.end_loop) (both _ (has_increment cs ops n v) closed).0).0
+  pub tail_ops : has_tail cs ops p n v e ≡ true → TailOps
+  tail_ops h =
+      let k : ℕ → ℕ = λ i. kind (op_at ops i) in
+      let sets = is_set_local v (op_at ops (n - 1)) in
+      let two = eqb (field_b (op_at ops (n - 2))) 2 in
+      let drops = eqb (k (n - 2)) K.pop_n in
+      let adds = eqb (k (n - 3)) K.checked_add in
+      let positive = is_positive (tail_constant cs ops n) in
+      let const = eqb (k (n - 4)) K.const in
+      let loads = is_get_local v (op_at ops (n - 5)) in
+      let unset = both _ (never_sets ops v (n - (p + 6)) (p + 5)) h in
+      let end_unset = both _ (never_sets ops e (n - (p + 5)) (p + 5)) unset.0 in
+      let closed = both (leb (p + 10) n && eqb (k n) K.end_loop) (has_increment cs ops n v) end_unset.0 in
+      let far = both (leb (p + 10) n) (eqb (k n) K.end_loop) closed.0 in
+      let set = both (loads && const && positive && adds && drops && two) sets closed.1 in
+      let by_two = both (loads && const && positive && adds && drops) two set.0 in
+      let drop = both (loads && const && positive && adds) drops by_two.0 in
+      let add = both (loads && const && positive) adds drop.0 in
+      let step = both (loads && const) positive add.0 in
+      let load = both loads const step.0 in
+      record {
+        far = leb-true (p + 10) n far.0;
+        closes = eqb-true (k n) K.end_loop far.1;
+        load = load.0;
+        const = eqb-true (k (n - 4)) K.const load.1;
+        step = positive_step (tail_constant cs ops n) step.1;
+        add = eqb-true (k (n - 3)) K.checked_add add.1;
+        drop = eqb-true (k (n - 2)) K.pop_n drop.1;
+        two = eqb-true (field_b (op_at ops (n - 2))) 2 by_two.1;
+        set = set.1;
+        end_unset = end_unset.1;
+        unset = unset.1;
+      }
 
-  pub tail_step : IsStep (tail_constant cs ops n)
-  tail_step =
-      let two = (both _ (is_set_local v (op_at ops (n - 1))) (both (leb (p + 10) n && eqb (kind (op_at ops n)) K.end_loop) (has_increment cs ops n v) closed).1).0 in
-      let pops = (both _ (eqb (field_b (op_at ops (n - 2))) 2) two).0 in
-      let adds = (both _ (eqb (kind (op_at ops (n - 2))) K.pop_n) pops).0 in
-      let positive = (both _ (eqb (kind (op_at ops (n - 3))) K.checked_add) adds).0 in
-      positive_step (tail_constant cs ops n)
-      (both (is_get_local v (op_at ops (n - 5)) && eqb (kind (op_at ops (n - 4))) K.const) (is_positive (tail_constant cs ops n)) positive).1
+  -- where it is, and its constant
+  pub tail_far : has_tail cs ops p n v e ≡ true → p + 10 ≤ n
+  tail_far h = (tail_ops h).far
+
+  pub tail_step : has_tail cs ops p n v e ≡ true → IsStep (tail_constant cs ops n)
+  tail_step h = (tail_ops h).step
 
 -- the walk with the smaller counts may be spared a refusal by 9
 abbrev pub spared : ℕ → ℕ → Type 0

@@ -1,5 +1,5 @@
 -- Both walks against those with distances not divided, which are the Rust's: where these answer, the cycle walk answers with at most their figure and the
--- stack walk with the same, and their refusals but 9 are the walks' too. Assumes nothing.
+-- stack walk with the same, and their refusals but 9 are the walks' too; unless the cycle walk is refused by 2.8's 16. Assumes nothing.
 use mathlib.Core.Path.{◌≡◌, refl, sym, ap, ◌∙◌}
 use mathlib.Core.Bool.{Bool, true, false}
 use mathlib.Core.List.{[]}
@@ -8,15 +8,18 @@ use Prim.Native.Nat.{ℕ, ◌≤◌}
 use native.Mathlib.Omega.{arith}
 use lib.IntN.{ℤ, pos}
 use Rattle.rules.specs.Limits.{deepest}
+use Rattle.rules.specs.Numbers as N
 use Rattle.rules.specs.Outcome.{Result, ok, no, and_then}
 use Rattle.rules.specs.Form.{Chunk}
 use Rattle.rules.specs.Rows.{Row, end, step, stop, leave, leave_if, if_then, if_else, loop, chunk_row}
 use Rattle.rules.specs.Count.{count_of}
-use Rattle.rules.specs.Cycles.{unbroken, inner, charge_of, Cost, exact_cost, Cycles, cycles_of, row_cycles, chunk_cycles}
+use Rattle.rules.specs.Cycles.{unbroken, inner, charge_of, Cost, Cycles, cycles_of, row_cycles, chunk_cycles}
 use Rattle.rules.specs.Stack.{Delta, offset, ends, Height, greater_delta, part_delta, part_peak, unless_ended, during, behind, after_body, rise_of, move_of, row_height, stack_of, row_stack, chunk_stack}
 use Rattle.rules.specs.StepClaims.{undivided, undivided_cost, undivided_cycles, undivided_height, undivided_stack, RefusedAlike, CyclesBelow, StackSame}
+use Rattle.rules.specs.SureClaims.{counted_cost, counted_cycles}
 use Rattle.rules.proofs.Below.{Below, less_n, LessCost, same_below, then_below, inner_below, walk_below}
 use Rattle.rules.proofs.TailStep.{spared, counts_below}
+use Rattle.rules.proofs.UnsureAdded.{unsure_added}
 
 -- answers and refusals told apart
 told : {A : Type 0} (Less : A → A → Type 0) (x y : Result A) → Below spared Less x y
@@ -48,14 +51,27 @@ cut_below (ok j) (ok k) h = (omega (arith, h.0), h.1)
 cut_below (no n p) (ok k) h = absurd h
 cut_below x (no n p) h = ⊎_elim (λ e. inl (rw e)) (λ s. inr s) h
 
-pub cycles_below : CyclesBelow
-cycles_below c =
-    let (answers, refuses) =
-    told LessCycles (chunk_cycles c) (undivided_cycles c)
-    (by_row LessCycles (chunk_row c) (λ r. row_cycles c [] r) (λ r. and_then (undivided_cost c r) (λ k. ok (cycles_of k))) (λ r.
-    cut_below (exact_cost c [] r) (undivided_cost c r)
+counted_below : (c : Chunk) → Below spared LessCycles (counted_cycles c) (undivided_cycles c)
+counted_below c =
+    by_row LessCycles (chunk_row c) (λ r. and_then (counted_cost c [] r) (λ k. ok (cycles_of k))) (λ r. and_then (undivided_cost c r) (λ k. ok (cycles_of k))) (λ r.
+    cut_below (counted_cost c [] r) (undivided_cost c r)
     (walk_below spared (charge_of c []) (charge_of c []) (count_of c) (undivided c) (λ i. same_below spared less_n (λ n. omega arith) (charge_of c [] i))
-    (counts_below c) r deepest 0 0 unbroken unbroken (omega arith) tt))) in
+    (counts_below c) r deepest 0 0 unbroken unbroken (omega arith) tt))
+
+-- which is the cycle walk, where that is not refused by 16
+as_counted : (c : Chunk) → ((p : ℕ) → chunk_cycles c ≡ no N.unsure_count p → ⊥) → chunk_cycles c ≡ counted_cycles c
+as_counted c sure = go (chunk_row c) sure
+  where
+    go : (x : Result Row) → ((p : ℕ) → and_then x (λ r. row_cycles c [] r) ≡ no N.unsure_count p → ⊥)
+        → and_then x (λ r. row_cycles c [] r) ≡ and_then x (λ r. and_then (counted_cost c [] r) (λ k. ok (cycles_of k)))
+    go (ok r) sure =
+        ⊎_elim (λ e. ap (λ (x : Result Cost). and_then x (λ k. ok (cycles_of k))) e)
+        (λ u. absurd (sure u.0 (ap (λ (x : Result Cost). and_then x (λ k. ok (cycles_of k))) u.4))) (unsure_added c [] r)
+    go (no n p) sure = refl
+
+pub cycles_below : CyclesBelow
+cycles_below c sure =
+    let (answers, refuses) = told LessCycles (chunk_cycles c) (undivided_cycles c) (rw (as_counted c sure) (counted_below c)) in
     (λ k e. let (j, is, less) = answers k e in (j, is, less.0, less.1), refuses)
 
 -- the stack walk, for which a count has only to be there

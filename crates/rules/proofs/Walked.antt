@@ -5,14 +5,16 @@ use mathlib.Core.List.{List}
 use Prim.Native.Nat.{ℕ, zero, suc, ◌+◌, ◌-◌, ◌*◌, ◌≤◌, max}
 use native.Mathlib.Omega.{arith}
 use lib.Dec.{eqb}
-use Rattle.rules.specs.Outcome.{Result, ok, no, Found, found, nothing, and_then}
+use Rattle.rules.specs.Numbers as N
+use Rattle.rules.specs.Outcome.{Result, ok, no, Found, found, nothing, and_then, demand}
 use Rattle.rules.specs.Ops.{field_a, figures_of, op_at}
 use Rattle.rules.specs.Form.{Chunk}
 use Rattle.rules.specs.Reading.{extra_at}
 use Rattle.rules.specs.Count.{has_header, has_tail, count_at, count_if, or_no_count, count_of}
+use Rattle.rules.specs.Sure.{is_sure, sure_count_of}
 use Rattle.rules.specs.Rows.{Row, end, step, stop, leave, leave_if, if_then, if_else, loop}
 use Rattle.rules.specs.Cycles.{Breaks, unbroken, costliest, note_break, break_cost, Cost, costs, inner, unless_ends, one_pass, passes_cost, row_cost}
-use Rattle.rules.specs.Limits.{deepest}
+use Rattle.rules.specs.Limits.{deepest, open_text}
 use Rattle.rules.specs.Cycles.{text_charge, callee_whole, charge_of, exact_cost}
 
 -- some break was met
@@ -192,14 +194,14 @@ fee_of c wholes i = (figures_of (op_at c.ops i)).cycles + extra_at c.extras i + 
 abbrev pub CountedIn : Chunk → ℕ → ℕ → Type 0
 CountedIn c p n = (has_header c.ops p ≡ true) × (count_at c.constants c.ops p ≡ found n)
 
-chunk_paid : (c : Chunk) (wholes : List ℕ) (i n : ℕ) → charge_of c wholes i ≡ ok n → n ≡ fee_of c wholes i
-chunk_paid c wholes i n h = go (eqb (extra_at c.extras i) 4294967295) h
+pub chunk_paid : (c : Chunk) (wholes : List ℕ) (i n : ℕ) → charge_of c wholes i ≡ ok n → n ≡ fee_of c wholes i
+chunk_paid c wholes i n h = go (eqb (extra_at c.extras i) open_text) h
   where
     go : (b : Bool) → text_charge b i (fee_of c wholes i) ≡ ok n → n ≡ fee_of c wholes i
     go true h = absurd (let z : ◌≡◌ {A = ℕ} 0 1 = cc in omega arith)
     go false h = cc
 
-chunk_counted : (c : Chunk) (p n : ℕ) → count_of c p ≡ ok n → CountedIn c p n
+pub chunk_counted : (c : Chunk) (p n : ℕ) → count_of c p ≡ ok n → CountedIn c p n
 chunk_counted c p n h =
     let is_found = asked (count_at c.constants c.ops p) h in
     let v = field_a (op_at c.ops (p + 1)) in
@@ -214,6 +216,19 @@ chunk_counted c p n h =
     tested v e s true b h = refl
     tested v e s false b h = absurd (let z : ◌≡◌ {A = ℕ} 0 1 = cc in omega arith)
 
+-- a sure count is a count that meets the two conditions
+pub sure_counted : (c : Chunk) (r : Row) (p n : ℕ) → sure_count_of c r p ≡ ok n → (count_of c p ≡ ok n) × (is_sure c r p n ≡ true)
+sure_counted c r p n h = go (count_of c p) h
+  where
+    tested : (b : Bool) (m : ℕ) → is_sure c r p m ≡ b → demand b N.unsure_count p m ≡ ok n → (ok m ≡ ok n) × (is_sure c r p n ≡ true)
+    tested true m e h = let same : m ≡ n = cc in (h, rw same at e)
+    tested false m e h = absurd (let z : ◌≡◌ {A = ℕ} 0 1 = cc in omega arith)
+
+    go : (x : Result ℕ) → and_then x (λ m. demand (is_sure c r p m) N.unsure_count p m) ≡ ok n → (x ≡ ok n) × (is_sure c r p n ≡ true)
+    go (ok m) h = tested (is_sure c r p m) m refl h
+    go (no a b) h = absurd (let z : ◌≡◌ {A = ℕ} 0 1 = cc in omega arith)
+
 pub chunk-walked : (c : Chunk) (wholes : List ℕ) (r : Row) (k : Cost) → exact_cost c wholes r ≡ ok k → Walked (fee_of c wholes) (CountedIn c) r 0 unbroken k
 chunk-walked c wholes r k h =
-    walked (fee_of c wholes) (CountedIn c) (charge_of c wholes) (count_of c) (chunk_paid c wholes) (chunk_counted c) r deepest 0 unbroken k h
+    walked (fee_of c wholes) (CountedIn c) (charge_of c wholes) (sure_count_of c r) (chunk_paid c wholes)
+    (λ p n e. chunk_counted c p n (sure_counted c r p n e).0) r deepest 0 unbroken k h

@@ -61,11 +61,11 @@ keeps_depths cs run (here f gs) (w ∷ v ∷ ws) t =
     (p.0, keeps_depths cs run (go cs run f gs w) (v ∷ ws) p.1)
 
 -- chunk L alone as a module
-abbrev module_l : List Chunk
+abbrev pub module_l : List Chunk
 module_l = chunk_l (pos 0) (pos 3) (pos 1) ∷ []
 
 -- three whole passes, the break by the header, Return
-abbrev longest : List Way
+abbrev pub longest : List Way
 longest = replicate 38 on ++ (aside ∷ on ∷ [])
 
 -- as a path of claim (a): 48 cycles, with its counts kept

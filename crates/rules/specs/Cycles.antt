@@ -8,7 +8,7 @@ use Rattle.rules.specs.Ops.{kind, field_a, figures_of, op_at}
 use Rattle.rules.specs.Form.{Chunk}
 use Rattle.rules.specs.Reading.{extra_at}
 use Rattle.rules.specs.Rows.{Row, end, step, stop, leave, leave_if, if_then, if_else, loop, chunk_row}
-use Rattle.rules.specs.Count.{count_of}
+use Rattle.rules.specs.Sure.{sure_count_of}
 
 -- the breaks met so far: none, or the costliest
 pub data Breaks : Type 0 where
@@ -112,10 +112,10 @@ charge_of c wholes i =
 -- the uncapped figure, and the one that stops at a cap, over the whole figures of the callees. For any cap, to stop on the way is to cut the uncapped figure
 -- once at the end (proofs/Capped).
 abbrev pub exact_cost : Chunk → List ℕ → Row → Result Cost
-exact_cost c wholes r = row_cost (λ n. n) (charge_of c wholes) (count_of c) r deepest 0 unbroken
+exact_cost c wholes r = row_cost (λ n. n) (charge_of c wholes) (sure_count_of c r) r deepest 0 unbroken
 
 abbrev pub capped_cost : ℕ → Chunk → List ℕ → Row → Result Cost
-capped_cost cap c wholes r = row_cost (min cap) (charge_of c wholes) (count_of c) r deepest 0 unbroken
+capped_cost cap c wholes r = row_cost (min cap) (charge_of c wholes) (sure_count_of c r) r deepest 0 unbroken
 
 -- the answer of the cycle walk: the cycles, whether the row ends, and 2.5's mark. No break leads out of a range, so none is left to tell.
 pub record Cycles : Type 0 where
@@ -127,7 +127,7 @@ pub record Cycles : Type 0 where
 abbrev pub cycles_of : Cost → Cycles
 cycles_of k = record { cycles = min cycle_cap k.cycles; ends = k.ends; cut = ltb cycle_cap k.cycles }
 
--- the cycle walk of a row over the whole figures of the callees: 7, 8, 9 as the walk meets them
+-- the cycle walk of a row over the whole figures of the callees: 7, 8, 9, 16 as the walk meets them
 abbrev pub row_cycles : Chunk → List ℕ → Row → Result Cycles
 row_cycles c wholes r = and_then (exact_cost c wholes r) (λ k. ok (cycles_of k))
 

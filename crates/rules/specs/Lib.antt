@@ -7,6 +7,8 @@ pub mod Form
 pub mod Reading
 pub mod Rows
 pub mod Count
+pub mod Sure
+pub mod Placed
 pub mod Cycles
 pub mod Stack
 pub mod Order
@@ -21,7 +23,10 @@ pub mod Cases
 pub mod CalleeCases
 pub mod MarkCases
 pub mod StepCases
+pub mod SureCases
 pub mod WritingCases
 pub mod TableCases
 pub mod Paths
+pub mod Values
 pub mod Claims
+pub mod SureClaims

@@ -46,3 +46,6 @@ unfit_part = 14
 
 abbrev pub stray_break : ℕ
 stray_break = 15
+
+abbrev pub unsure_count : ℕ
+unsure_count = 16

@@ -30,7 +30,7 @@ chunk_outcome ws c = looked_up ws c (λ cs. chunk_at cs c)
 abbrev pub count_outcome : List ℕ → ℕ → ℕ → Outcome ℕ
 count_outcome ws c p = followed_by (chunk_outcome ws c) (λ k. in_chunk c (count_of k p))
 
--- the cycle walk of one chunk: 1, 2, 12, 3, 4, 5, 6, 15, and 7 to 9 as the walk meets them
+-- the cycle walk of one chunk: 1, 2, 12, 3, 4, 5, 6, 15, and 7, 8, 9, 16 as the walk meets them
 abbrev pub cycles_outcome : List ℕ → ℕ → Outcome Cycles
 cycles_outcome ws c = followed_by (chunk_outcome ws c) (λ k. in_chunk c (chunk_cycles k))
 
@@ -70,8 +70,8 @@ pub record Line : Type 0 where
 abbrev pub line_of : Cycles → Cycles → Stack → Line
 line_of c w s = record { cycles = c.cycles; cut = c.cut; peak = s.peak; bytes = s.bytes; whole = w.cycles }
 
--- one chunk of a module, over the stack bytes and the whole figures of its callees: 3, 4, 5, 6, 15, the cycle walk's 7 to 9, the stack walk's, 11. The walk
--- with callees charged refuses where the cycle walk does and nowhere else, and nothing else of the sheet changes (proofs/RestStays).
+-- one chunk of a module, over the stack bytes and the whole figures of its callees: 3, 4, 5, 6, 15, the cycle walk's 7, 8, 9, 16, the stack walk's, 11. The
+-- walk with callees charged refuses where the cycle walk does and nowhere else, and nothing else of the sheet changes (proofs/RestStays).
 abbrev pub chunk_line : Chunk → List ℕ → List ℕ → Result Line
 chunk_line c callees wholes =
     and_then (chunk_row c)

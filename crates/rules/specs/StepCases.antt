@@ -42,10 +42,10 @@ stepped =
     ∷ record { name = "reading 66: the end below the start"; claim = sheet_l (pos 3) (pos 0) (pos 2) ≡ one 12 3 160 }
     ∷ record { name = "reading 66: by more than 64 bits hold"; claim = sheet_l greatest least (pos 5) ≡ one 12 3 160 }
     ∷ record { name = "reading 68: the limit is not on the distance"; claim = sheet_l (pos 0) (pos (2 ^ 33)) (pos (2 ^ 33)) ≡ one 24 3 160 }
-    ∷ record { name = "reading 67: the greatest distance, in two"; claim = sheet_l (pos 0) greatest (pos (2 ^ 62)) ≡ one 36 3 160 }
-    ∷ record { name = "reading 67: in one"; claim = sheet_l (pos 0) greatest greatest ≡ one 24 3 160 }
-    ∷ record { name = "reading 67: one short of it, in two"; claim = sheet_l (pos 0) greatest (pos (2 ^ 63 - 2)) ≡ one 36 3 160 }
-    ∷ record { name = "reading 67: from below 0"; claim = sheet_l (negsuc 0) (pos (2 ^ 63 - 2)) greatest ≡ one 24 3 160 }
+    ∷ record { name = "reading 67: the greatest distance, in two"; claim = count_l (pos 0) greatest (pos (2 ^ 62)) ≡ answer 2 }
+    ∷ record { name = "reading 67: in one"; claim = count_l (pos 0) greatest greatest ≡ answer 1 }
+    ∷ record { name = "reading 67: one short of it, in two"; claim = count_l (pos 0) greatest (pos (2 ^ 63 - 2)) ≡ answer 2 }
+    ∷ record { name = "reading 67: from below 0"; claim = count_l (negsuc 0) (pos (2 ^ 63 - 2)) greatest ≡ answer 1 }
     ∷ record { name = "reading 67: a distance of 2^63, by 1"; claim = sheet_l (negsuc 0) greatest (pos 1) ≡ refused 9 0 4 }
     ∷ record { name = "reading 67: by 2"; claim = sheet_l (negsuc 0) greatest (pos 2) ≡ refused 9 0 4 }
     ∷ record { name = "reading 67: by the greatest step"; claim = sheet_l (negsuc 0) greatest greatest ≡ refused 9 0 4 }

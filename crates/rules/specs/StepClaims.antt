@@ -1,5 +1,5 @@
 -- Request 2.7 as types: what a count says of the loop's steps in whole numbers, and that no walk's figure is above the one that it has with distances not
--- divided, which is the Rust's. proofs/StepCount and proofs/Undivided have the proofs.
+-- divided, which is the Rust's, refusals by 2.8's number aside. proofs/StepCount and proofs/Undivided have the proofs.
 use Rattle.std.specs.Prelude.{◌≡◌, true, false, List, [], ◌⊎◌, ℕ, ◌*◌, ◌^◌, ◌<◌, ◌≤◌, ℤ, pos, ◌+ℤ◌}
 use Rattle.std.specs.Int.Signed.{le_z}
 use Rattle.rules.specs.Limits.{deepest, most_passes}
@@ -53,10 +53,11 @@ undivided_stack c callees = and_then (chunk_row c) (λ r. and_then (undivided_he
 abbrev pub RefusedAlike : {A : Type 0} → Result A → Result A → Type 0
 RefusedAlike x y = (n p : ℕ) → (n ≡ N.no_count → ⊥) → y ≡ no n p → x ≡ no n p
 
--- the cycle walk: where the Rust's answers ours does, not above it and with its ending
+-- The cycle walk: where the Rust's answers ours does, not above it and with its ending; unless it is refused by 16, which the Rust's never is.
+-- proofs/UnsureAdded says when.
 abbrev pub CyclesBelow : Type 0
 CyclesBelow =
-    (c : Chunk)
+    (c : Chunk) → ((p : ℕ) → chunk_cycles c ≡ no N.unsure_count p → ⊥)
     → ((k : Cycles) → undivided_cycles c ≡ ok k → (j : Cycles) × (chunk_cycles c ≡ ok j) × (j.cycles ≤ k.cycles) × (j.ends ≡ k.ends))
     × RefusedAlike (chunk_cycles c) (undivided_cycles c)
 

@@ -1,7 +1,7 @@
 -- Demand 3 for the entry point's own answer: where the module sheet answers, the numbers in the tray bound every path, and the mark is exact.
 -- Assumes nothing.
 use mathlib.Core.Path.{◌≡◌, refl, ap, ◌∙◌}
-use mathlib.Core.Bool.{true, false}
+use mathlib.Core.Bool.{Bool, true, false}
 use mathlib.Core.List.{List, []}
 use Prim.Native.Nat.{ℕ, ◌+◌, ◌*◌, ◌<◌, ◌≤◌, min}
 use native.Mathlib.Omega.{arith}
@@ -17,11 +17,13 @@ use Rattle.rules.specs.Order.{chunk_at}
 use Rattle.rules.specs.Limits.{cycle_cap}
 use Rattle.rules.specs.Sheet.{no_line, Sheet, read_module, sheet_outcome, sheet_tray, mark_number, line_numbers, line_width, cycles_place, mark_place, bytes_place, whole_place, tray_numbers}
 use Rattle.rules.specs.Paths.{Way, begin, path, path_cycles, path_bytes, KeepsCounts, KeepsDepths}
+use Rattle.rules.specs.Values.{Memory, Valued}
 use Rattle.rules.specs.Claims.{Accepted}
 use Rattle.rules.proofs.Answers.{from_answer, from_chunk}
 use Rattle.rules.proofs.SheetLines.{accepted_sheet}
 use Rattle.rules.proofs.StackBound.{stack_bounded}
 use Rattle.rules.proofs.WholeBound.{whole_bounded}
+use Rattle.rules.proofs.CountsKept.{counts_kept}
 use Rattle.rules.proofs.Demand.{cycles_bounded, mark_exact}
 use Rattle.words.specs.Parts.{chunks_in}
 use Rattle.words.specs.Refusals.{outcome_of}
@@ -119,3 +121,18 @@ module _ (ws tray after : List ℕ) (n : ℕ) (answered : outcome_of {A = ℕ} {
   pub call_bytes : (ways : List Way) → KeepsDepths (chunks_in ws) true (begin (chunks_in ws) c) ways
       → path_bytes (chunks_in ws) c (path (chunks_in ws) true (begin (chunks_in ws) c) ways) ≤ get_or after (line_width * c + bytes_place) 0
   call_bytes ways keeps = rw left (tray_bytes ws tray counted.0 counted.1 c in-module ways keeps)
+
+  -- A path that does as its ops say, from any memory, keeps the counts of its loops, callees run or not.
+  kept : (run : Bool) (mem : ℕ → Memory) (ways : List Way) → Valued (chunks_in ws) run (begin (chunks_in ws) c) mem ways
+      → KeepsCounts (chunks_in ws) run (begin (chunks_in ws) c) ways
+  kept run mem ways valued = counts_kept ws (length tray) (chunks_in ws) counted.0 (accepts ws (length tray) counted.0 counted.1) c in-module run mem ways valued
+
+  -- So its cycles are at most those of its line with no condition on loops left
+  pub call_sure_cycles : (mem : ℕ → Memory) (ways : List Way) → Valued (chunks_in ws) false (begin (chunks_in ws) c) mem ways
+      → min cycle_cap (path_cycles (chunks_in ws) (path (chunks_in ws) false (begin (chunks_in ws) c) ways)) ≤ get_or after (line_width * c + cycles_place) 0
+  call_sure_cycles mem ways valued = call_cycles ways (kept false mem ways valued)
+
+  -- and, callees run, at most the whole figure of its line.
+  pub call_sure_whole : (mem : ℕ → Memory) (ways : List Way) → Valued (chunks_in ws) true (begin (chunks_in ws) c) mem ways
+      → min cycle_cap (path_cycles (chunks_in ws) (path (chunks_in ws) true (begin (chunks_in ws) c) ways)) ≤ get_or after (line_width * c + whole_place) 0
+  call_sure_whole mem ways valued = call_whole ways (kept true mem ways valued)

@@ -3,7 +3,7 @@ use Rattle.std.specs.Prelude.{ℕ, Result, Ok, Err}
 use Rattle.rules.specs.Numbers as N
 use Rattle.rules.specs.Outcome as O
 use Rattle.words.specs.declared.refusals.Refusal.{Refusal}
-use Rattle.words.specs.declared.refusals.Refusal.TheVariants.{BadHead, BadWord, NoStream, NoReset, Backward, Crossed, TooDeep, OpenText, NoCount, Ring, TooTall, NoSuchChunk, ShortTray, UnfitPart, StrayBreak}
+use Rattle.words.specs.declared.refusals.Refusal.TheVariants.{BadHead, BadWord, NoStream, NoReset, Backward, Crossed, TooDeep, OpenText, NoCount, Ring, TooTall, NoSuchChunk, ShortTray, UnfitPart, StrayBreak, UnsureCount}
 use Rattle.words.specs.declared.refusals.Fault.{Fault}
 use Rattle.words.specs.declared.refusals.Refused.{Refused}
 
@@ -24,6 +24,7 @@ refusal_number NoSuchChunk = N.no_such_chunk
 refusal_number ShortTray = N.short_tray
 refusal_number UnfitPart = N.unfit_part
 refusal_number StrayBreak = N.stray_break
+refusal_number UnsureCount = N.unsure_count
 
 module _ {A B : Type 0} (f : A → B) where
   -- inside one chunk, with what the value stands for

@@ -23,6 +23,7 @@ pub enum Refusal {
     ShortTray = 13,
     UnfitPart = 14,
     StrayBreak = 15,
+    UnsureCount = 16,
 }
 
 impl Refusal {

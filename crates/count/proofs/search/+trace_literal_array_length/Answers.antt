@@ -5,7 +5,8 @@ use Rattle.std.proofs.lemmas.Bool.{eq-eqb, ne_eqb}
 use Rattle.std.proofs.lemmas.Int.{to_z_pos}
 use Rattle.rules.specs.Kinds as K
 use Rattle.rules.specs.Ops.{kind, field_a, field_b}
-use Rattle.count.proofs.SearchLaws.{SetAt, set_at, array_told, array_at}
+use Rattle.count.specs.Count.{SetAt}
+use Rattle.count.proofs.SearchLaws.{set_at, array_told, array_at}
 use Rattle.count.proofs.search.+trace_literal_array_length.Goals as goal
 use Rattle.count.proofs.search.+trace_literal_array_length.Goals.{Else-at-eq0, Joined-else-is, else-is-via-then-is+else-w-eq1, else-is-via-else-is}
 

@@ -1,33 +1,13 @@
--- `trace_const_set_local` answers the value of a slot, told by what stands right before its SetLocal.
+-- `trace_const_set_local` answers the value that the last SetLocal of a slot gives, and where that stands.
 -- Assumes nothing.
-use mathlib.Core.Path.{sym, ap, ◌∙◌}
-use native.Mathlib.Omega.{arith}
-use Rattle.rules.specs.Count.{constant_value}
-use Rattle.count.proofs.SearchLaws.{SetAt, set_at, value_told, value_constant, value_no_get, value_length}
+use Rattle.std.proofs.Common.{◌≡◌, ℕ, sym, arith}
+use Rattle.count.proofs.SearchLaws.{below_start, set_at}
 use Rattle.count.proofs.search.trace_const_set_local.Goals as goal
-use Rattle.count.proofs.search.trace_const_set_local.Goals.{Else-at-eq0}
 
--- past the test for 0: where the search found the SetLocal
-here : (c : Else-at-eq0) → let a = c.args in SetAt a.ops.now a.before a.slot c.in-Some.at
-here c = set_at _ _ _ _ c.in-Some.ensures c.if-at-eq0.false c.requires
+pub value_at-given-requires : goal.value_at-given-requires
+value_at-given-requires c = omega (arith, c.requires, below_start c.args.ops.now c.args.slot c.args.before c.in-Some.at (sym c.in-Some.ensures))
 
-pub offset_bounds-ops-at : goal.offset_bounds-ops-at
-offset_bounds-ops-at c = omega (arith, here (goal.at.offset_bounds-ops-at c).Else-at-eq0)
-
-pub bounds-ops-at : goal.bounds-ops-at
-bounds-ops-at c = omega (arith, here (goal.at.bounds-ops-at c).Else-at-eq0)
-
-pub returns-then-is : goal.returns-then-is
-returns-then-is c =
-    value_told _ ∙ ap constant_value c.constant_at.ensures ∙ sym (value_constant _ (here (goal.at.returns-then-is c).Else-at-eq0) (sym c.is.ensures ∙ c.if-is.true))
-
-pub returns-then-not-is-2 : goal.returns-then-not-is-2
-returns-then-not-is-2 c =
-    sym (value_no_get _ (here (goal.at.returns-then-not-is-2 c).Else-at-eq0) (sym c.is.ensures ∙ c.if-is.false) c.if-at-eq1.false
-    (sym c.is-else-at-eq1.ensures ∙ c.if-not-is.false) (sym c.is-2.ensures ∙ c.if-not-is-2.true))
-
-pub returns : goal.returns
-returns c =
-    c.trace_literal_array_length.ensures
-    ∙ sym (value_length _ (here (goal.at.returns c).Else-at-eq0) (sym c.is.ensures ∙ c.if-is.false) c.if-at-eq1.false
-    (sym c.is-else-at-eq1.ensures ∙ c.if-not-is.false) (sym c.is-2.ensures ∙ c.if-not-is-2.false))
+pub returns-clause-stop : goal.returns-clause-stop
+returns-clause-stop c =
+    let later : c.in-Some.at ≡ 0 → ⊥ = λ e. let z = rw e at c.in-Some-given.ensures in let o : ◌≡◌ {A = ℕ} 0 1 = cc in omega arith in
+    set_at _ _ _ _ c.in-Some.ensures later c.requires

@@ -1,4 +1,4 @@
--- `chunk_line` answers a chunk's line, or the first of refusals 3 to 9, 11 and 15.
+-- `chunk_line` answers a chunk's line, or the first of refusals 3 to 9, 11, 15 and 16.
 -- Assumes nothing.
 use mathlib.Core.Path.{refl}
 use Rattle.std.proofs.lemmas.Result.{err_from_is_err_and}
