@@ -41,6 +41,11 @@
 #define PM_ENDS ((uint64_t)1 << 32)
 #define PM_CUT ((uint64_t)1 << 33)
 
+/* The answers of pm_yields. */
+#define PM_NO 0
+#define PM_YES 1
+#define PM_NEVER 2
+
 /* Whether a packed value is a refusal. */
 static inline int pm_is_refusal(uint64_t packed) { return packed >> 56 != 0; }
 
@@ -65,6 +70,11 @@ uint64_t pm_count(const uint32_t *words, size_t length, uint32_t c, uint32_t p);
 
 /* The cycle walk of chunk c: its cycles, with PM_ENDS if its row ends and PM_CUT if the cycles are cut. */
 uint64_t pm_cycles(const uint32_t *words, size_t length, uint32_t c);
+
+/* Does every way through chunk c give up its turn, over a list by chunk index, 1 for a callee that always yields; any other number, and what is past the list's
+ * end, is one that need not: PM_YES, PM_NO, or PM_NEVER, which says that no way reaches the end of its range. Where blocks of the range lie more than 256 deep
+ * in one another, the answer is the original's, and a way may belie PM_YES and PM_NEVER. */
+uint64_t pm_yields(const uint32_t *words, size_t length, uint32_t c, const uint32_t *list, size_t count);
 
 /* The stack walk of chunk c over the callees' stack bytes by chunk index, 0 past the list's end: peak, delta (0 where the row ends) and bytes into out;
  * the answer is 1 where the row ends, else 0. */

@@ -9,6 +9,8 @@ mod caps;
 mod case;
 mod classes;
 mod counts;
+mod coverage;
+mod coverage_cases;
 mod document;
 mod every;
 mod exact;
@@ -35,6 +37,7 @@ mod random;
 mod refusals;
 #[allow(dead_code)]
 mod rounds;
+mod short_rows;
 mod stands;
 mod stepping;
 mod steps;
@@ -129,6 +132,7 @@ fn refusals(counts: &mut Counts, random: &mut Random) {
             table::cycles(&words, c),
             table::count(&words, c, p),
             table::stack(&words, c, &[64, 0]),
+            table::yields(&words, c, &[1, 0]),
         ];
         if let Outcome::Refused(BAD_HEAD | BAD_WORD, ..) = expected {
             let room = random.below(9) as usize;
@@ -235,6 +239,9 @@ const TO_ONE_STEPPING: u64 = 15;
 /// And to one more in which blocks were put around what sets a value.
 const TO_ONE_MOVED: u64 = 5;
 
+/// And to one more whose Yields, Calls and lists are drawn.
+const TO_ONE_GIVING: u64 = 5;
+
 /// Says of each part how many modules and differences it had, and how long it took up to its end.
 fn teller() -> impl FnMut(&str, &Counts) {
     let start = std::time::Instant::now();
@@ -275,6 +282,8 @@ fn run(seed: u64, modules: u64) -> bool {
     told("loops that step", &counts);
     unsure::all(&mut counts, seed, modules / TO_ONE_MOVED);
     told("unsure counts", &counts);
+    coverage::all(&mut counts, seed, modules / TO_ONE_GIVING);
+    told("ways that give up their turn", &counts);
     counts.print();
     times::print();
     println!(

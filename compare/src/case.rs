@@ -10,7 +10,7 @@ pub struct Case {
     pub words: Vec<u32>,
     pub chunks: Vec<form::Chunk>,
     pub module: bytecode::Module,
-    /// the lent callee list of the stack walk
+    /// the list that is lent by chunk index: the callees' bytes to the stack walk, 1 for a callee that always yields to the test of yields
     pub callees: Vec<u32>,
 }
 

@@ -99,6 +99,12 @@ pub const SEARCHING: [Class; 3] = [
     ("254 loops around a long body", |words| around(254, words)),
 ];
 
+/// A chunk of Calls alone, to 256 chunks by turns, a module of so many words.
+fn calls(words: usize) -> Vec<Chunk> {
+    let calls = (0..words - 2).map(|i| op(CALL, 0, i % 256));
+    vec![chunk(FUNC, 0, &[], calls.collect())]
+}
+
 /// 255 Ifs in one another.
 fn deep() -> Vec<Chunk> {
     vec![nested(255, &[Around::Arm], None)]
@@ -135,4 +141,21 @@ pub fn of_walks() -> Vec<Named> {
     ];
     held.extend(SEARCHING.map(|(name, class)| (name, class(16_000))));
     held
+}
+
+/// The list that is lent to the test of yields: of 256 callees every other one always yields.
+pub fn list() -> Vec<u32> {
+    (0..256).map(|c| c % 2).collect()
+}
+
+/// Those of which the test of yields is measured, on the first chunk.
+pub fn of_yields() -> Vec<Named> {
+    vec![
+        ("plain ops, one chunk", plain(16_002)),
+        ("calls, one chunk", calls(16_002)),
+        ("blocks one after another", blocks(2_730)),
+        ("255 blocks in one another", deep()),
+        ("counted loops", loops(16_000)),
+        ("chunk L", vec![chunk_l(&[0, 3, 1])]),
+    ]
 }

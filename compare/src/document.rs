@@ -88,6 +88,23 @@ fn row(ops: &[Op], mut i: usize, to: usize, in_loop: bool) -> bool {
     true
 }
 
+/// "256 blocks in one another are walked."
+pub const DEEPEST: usize = 256;
+
+/// How many blocks of a row lie in one another.
+pub fn depth(ops: &[Op]) -> usize {
+    let (mut open, mut most) = (0, 0);
+    for op in ops {
+        match op.kind {
+            IF | LOOP => open += 1,
+            END_IF | END_LOOP => open -= 1,
+            _ => {}
+        }
+        most = most.max(open);
+    }
+    most
+}
+
 /// The target of the innermost Loop around position `i` of a range that begins at `from`: that of the last Loop before `i` whose target is behind `i`.
 fn target_around(ops: &[Op], from: usize, i: usize) -> Option<u16> {
     let loops = ops[from..i].iter().filter(|op| op.kind == LOOP);

@@ -9,13 +9,13 @@ use crate::strays;
 
 /// Choices one after the other. Each run takes the same choices as the one before, but for the last that could be counted up.
 #[derive(Default)]
-struct Choices {
+pub struct Choices {
     taken: Vec<(u64, u64)>,
     at: usize,
 }
 
 impl Choices {
-    fn below(&mut self, end: u64) -> u64 {
+    pub fn below(&mut self, end: u64) -> u64 {
         if self.at == self.taken.len() {
             self.taken.push((0, end));
         }
@@ -36,7 +36,8 @@ impl Choices {
     }
 }
 
-fn each(mut make: impl FnMut(&mut Choices) -> Chunk, mut see: impl FnMut(Chunk)) {
+/// What is made by each run of choices.
+pub fn each<T>(mut make: impl FnMut(&mut Choices) -> T, mut see: impl FnMut(T)) {
     let mut choices = Choices::default();
     loop {
         see(make(&mut choices));

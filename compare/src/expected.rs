@@ -6,7 +6,7 @@ use crate::kinds::REENTRANT;
 use crate::refusals::*;
 use crate::stepping;
 use crate::sure;
-use crate::table::{self, ENDS, Outcome, WHOLE};
+use crate::table::{self, ENDS, NEVER, NO, Outcome, WHOLE, YES};
 use crate::verify::oracle::{self, FIELDS};
 use Outcome::{Answer, Refused};
 
@@ -251,6 +251,27 @@ fn stack_by(case: &Case, c: usize, callees: &[u32], by: By) -> Expected {
 /// Over the lent callees.
 pub fn stack(case: &Case, c: usize) -> Expected {
     of_chunk(case, c, |by| stack_by(case, c, &case.callees, by))
+}
+
+/// The number of the original's answer: `PM_NO`, `PM_YES` or `PM_NEVER`.
+pub fn coverage_number(coverage: Option<bool>) -> i64 {
+    match coverage {
+        Some(false) => NO,
+        Some(true) => YES,
+        None => NEVER,
+    }
+}
+
+/// Over the lent list. No count is asked, so that it does not matter how loops are counted.
+pub fn yields(case: &Case, c: usize) -> Expected {
+    if let Some(apart) = set_apart(case, c) {
+        return apart;
+    }
+    let always = oracle::listed(&case.callees);
+    Same(match oracle::coverage(&case.module.chunks[c], &always) {
+        Ok(coverage) => Answer(vec![coverage_number(coverage)]),
+        Err(refusal) => refused(refusal, c),
+    })
 }
 
 pub fn order(case: &Case) -> Expected {

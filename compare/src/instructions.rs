@@ -1,5 +1,6 @@
-//! One call of a proved function on one of the measured modules, for `compare/instructions` to count the instructions of. `classes sheet` and `classes cycles`
-//! list the modules by name and words; `sheet N` and `cycles N` call `pm_sheet` and `pm_cycles` on the Nth.
+//! One call of a proved function on one of the measured modules, for `compare/instructions` to count the instructions of. `classes sheet`, `classes
+//! cycles` and `classes yields` list the modules by name and words; `sheet N`, `cycles N` and `yields N` call `pm_sheet`, `pm_cycles` and `pm_yields` on
+//! the Nth.
 mod classes;
 #[allow(dead_code)]
 mod form;
@@ -22,18 +23,24 @@ fn held(of: &str) -> Vec<Named> {
     match of {
         "sheet" => classes::of_sheets(),
         "cycles" => classes::of_walks(),
-        _ => panic!("sheet or cycles"),
+        "yields" => classes::of_yields(),
+        _ => panic!("sheet, cycles or yields"),
     }
 }
 
 fn call(of: &str, (name, chunks): &Named) {
     let words = form::write(chunks);
-    if of == "sheet" {
-        let mut tray = vec![0; ROW * chunks.len()];
-        let lines = pinnaclemug::sheet(&words, &mut tray);
-        assert_eq!(lines, Ok(chunks.len()), "{name}");
-    } else {
-        assert!(pinnaclemug::cycles(&words, 0).is_ok(), "{name}");
+    match of {
+        "sheet" => {
+            let mut tray = vec![0; ROW * chunks.len()];
+            let lines = pinnaclemug::sheet(&words, &mut tray);
+            assert_eq!(lines, Ok(chunks.len()), "{name}");
+        }
+        "cycles" => assert!(pinnaclemug::cycles(&words, 0).is_ok(), "{name}"),
+        _ => assert!(
+            pinnaclemug::yields(&words, 0, &classes::list()).is_ok(),
+            "{name}"
+        ),
     }
 }
 

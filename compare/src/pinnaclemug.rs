@@ -4,6 +4,7 @@ unsafe extern "C" {
     fn pm_read(words: *const u32, length: usize) -> u64;
     fn pm_count(words: *const u32, length: usize, c: u32, p: u32) -> u64;
     fn pm_cycles(words: *const u32, length: usize, c: u32) -> u64;
+    fn pm_yields(words: *const u32, length: usize, c: u32, list: *const u32, count: usize) -> u64;
     fn pm_stack(
         words: *const u32,
         length: usize,
@@ -111,6 +112,13 @@ pub fn cycles(words: &[u32], c: u32) -> Result<Cycles, Refusal> {
         ends: answer & ENDS != 0,
         cut: answer & CUT != 0,
     })
+}
+
+/// Whether every way through chunk c gives up its turn, over a list: 0 for no, 1 for yes, 2 for never.
+pub fn yields(words: &[u32], c: u32, list: &[u32]) -> Result<u32, Refusal> {
+    // The words and the list are lent for the call, and only read.
+    let packed = unsafe { pm_yields(words.as_ptr(), words.len(), c, list.as_ptr(), list.len()) };
+    unpacked(packed).map(|coverage| coverage as u32)
 }
 
 /// The stack walk of chunk c over the callees' bytes: peak, delta (0 where the row ends) and bytes into `out`, and whether the row ends.

@@ -1,8 +1,9 @@
 //! The stored questions: document 01's cases and what DECISIONS reads into it, every op kind, every refusal at different places, the limits, near misses of a
-//! count, callees, random modules from a fixed seed, stray breaks, figures about the cap, loops that step by other numbers than 1, and counts
-//! that a path may not keep to.
+//! count, callees, random modules from a fixed seed, stray breaks, figures about the cap, loops that step by other numbers than 1, counts
+//! that a path may not keep to, and whether every way through gives up its turn.
 mod calls;
 mod counted;
+mod coverage;
 mod library;
 mod marks;
 mod readings;
@@ -27,6 +28,7 @@ pub enum Asked {
     Stack,
     Order,
     Sheet,
+    Yields,
 }
 
 pub struct Question {
@@ -148,6 +150,21 @@ impl List {
         self.ask(name, question)
     }
 
+    fn yields(
+        &mut self,
+        name: &str,
+        held: &[Chunk],
+        chunk: usize,
+        callees: &[u32],
+    ) -> &mut Question {
+        let question = Question {
+            chunk,
+            callees: callees.to_vec(),
+            ..Question::of(Asked::Yields, &form::write(held))
+        };
+        self.ask(name, question)
+    }
+
     /// The call order or the sheet in a tray of so much room.
     fn tray(&mut self, name: &str, asked: Asked, words: &[u32], room: usize) -> &mut Question {
         let question = Question {
@@ -177,6 +194,11 @@ impl List {
         self.ask(name, Question::of(Asked::Stack, words))
     }
 
+    /// The yields of chunk 0 of these words, which may be no module.
+    fn yields_words(&mut self, name: &str, words: &[u32]) -> &mut Question {
+        self.ask(name, Question::of(Asked::Yields, words))
+    }
+
     /// The cycles of a Func chunk of these ops alone.
     fn func(&mut self, name: &str, ops: Vec<Op>) -> &mut Question {
         self.cycles(name, &[chunk(FUNC, 0, &[], ops)], 0)
@@ -204,5 +226,6 @@ pub fn all() -> Vec<Question> {
     marks::all(&mut list);
     steps::all(&mut list);
     sure::all(&mut list);
+    coverage::all(&mut list);
     list.0
 }

@@ -1,6 +1,6 @@
-//! Finds how much machine stack the proved cycle walk, the proved module sheet, the proved writer and the programs `sheet` and `shelf` take on the modules that go
-//! deepest. A trial of a call is a child process that makes it in a thread of so much stack; a trial of a program is its own process under `ulimit -s`. Where the
-//! stack is too small it ends by a signal.
+//! Finds how much machine stack the proved cycle walk, the proved test of yields, the proved module sheet, the proved writer and the programs `sheet`, `shelf`
+//! and `optable` take on the modules that go deepest. A trial of a call is a child process that makes it in a thread of so much stack; a trial of a program is
+//! its own process under `ulimit -s`. Where the stack is too small it ends by a signal.
 #[allow(dead_code)]
 mod form;
 #[allow(dead_code)]
@@ -27,10 +27,12 @@ use std::io::Write;
 use std::process::{Command, Stdio, exit};
 use std::thread;
 
-/// What is asked for, and what must be answered: the cycles of chunk 0, how many lines the sheet has, or that all words are written from their lists.
+/// What is asked for, and what must be answered: the cycles of chunk 0, the number of its answer to whether every way through gives up its turn, how many lines
+/// the sheet has, or that all words are written from their lists.
 #[derive(Clone, Copy)]
 enum Asked {
     Cycles(Result<Cycles, Refusal>),
+    Yields(u32),
     Sheet(usize),
     Written,
 }
@@ -74,6 +76,14 @@ fn too_deep(name: &'static str, ops: Vec<Op>) -> Case {
     }
 }
 
+fn yields(name: &'static str, ops: Vec<Op>, answer: u32) -> Case {
+    Case {
+        name,
+        words: module(ops),
+        asked: Asked::Yields(answer),
+    }
+}
+
 /// The sheet of a module of so many chunks, which it answers.
 fn sheet(name: &'static str, words: Vec<u32>, chunks: usize) -> Case {
     Case {
@@ -95,6 +105,26 @@ fn ifs(at: usize, blocks: usize, inside: Vec<Op>) -> Vec<Op> {
     let mut ops: Vec<Op> = (0..blocks).map(|i| op(IF, 0, last - i)).collect();
     ops.extend(inside);
     ops.extend((0..blocks).map(|_| op(END_IF, 0, 0)));
+    ops
+}
+
+/// The answers no and never of `pm_yields`.
+const NO: u32 = 0;
+const NEVER: u32 = 2;
+
+/// So many Loops in one another, none of which is left.
+fn loops(blocks: usize) -> Vec<Op> {
+    let mut ops: Vec<Op> = (0..blocks).map(|i| op(LOOP, 0, 2 * blocks - i)).collect();
+    ops.extend((0..blocks).map(|_| op(END_LOOP, 0, 0)));
+    ops
+}
+
+/// So many Ifs in one another, each in the first arm of the one around it, which has an Else.
+fn first_arms(blocks: usize) -> Vec<Op> {
+    let mut ops: Vec<Op> = (0..blocks)
+        .map(|i| op(IF, 0, 3 * blocks - 2 * i - 1))
+        .collect();
+    ops.extend((0..blocks).flat_map(|i| [op(ELSE, 0, blocks + 2 * i + 1), op(END_IF, 0, 0)]));
     ops
 }
 
@@ -142,6 +172,10 @@ fn cases() -> Vec<Case> {
             copies_cycles(DEEPEST.0, DEEPEST.1),
             false,
         ),
+        yields("yields: no ops", vec![], NO),
+        yields("yields: 8,000 blocks", ifs(0, 8_000, vec![]), NO),
+        yields("yields: 8,000 loops", loops(8_000), NEVER),
+        yields("yields: 5,000 first arms", first_arms(5_000), NO),
         sheet("sheet: no ops", module(vec![]), 1),
         sheet("sheet: 256 blocks", module(ifs(0, 256, vec![])), 1),
         sheet("sheet: 7,925 copies in 255 blocks", module(deepest()), 1),
@@ -229,6 +263,7 @@ fn trial(case: &Case, kib: usize) {
     let lists = Lists::of(&chunks_of(&words));
     let call = move || match asked {
         Asked::Cycles(answer) => pinnaclemug::cycles(&words, 0) == answer,
+        Asked::Yields(answer) => pinnaclemug::yields(&words, 0, &[]) == Ok(answer),
         Asked::Sheet(chunks) => pinnaclemug::sheet(&words, &mut tray) == Ok(chunks),
         Asked::Written => pinnaclemug::write(&lists.lent(), &mut tray) == Ok(words.len()),
     };

@@ -8,7 +8,7 @@ use crate::pinnaclemug::{self, ROW};
 use crate::questions::{self, Asked, Question};
 use crate::refusals::*;
 use crate::stands::{self, Stands};
-use crate::table::{self, COMPARISONS, ENDS, Each, MARK, Outcome, WHOLE};
+use crate::table::{self, COMPARISONS, ENDS, Each, MARK, NEVER, NO, Outcome, WHOLE, YES};
 use Expected::{Apart, Same, Stepping};
 use std::collections::BTreeMap;
 use std::fmt::Display;
@@ -24,6 +24,7 @@ fn number(asked: Asked) -> u32 {
         Asked::Stack => 4,
         Asked::Order => 5,
         Asked::Sheet => 6,
+        Asked::Yields => 7,
     }
 }
 
@@ -36,6 +37,7 @@ fn name(asked: Asked) -> &'static str {
         Asked::Stack => "stack",
         Asked::Order => "order",
         Asked::Sheet => "sheet",
+        Asked::Yields => "yields",
     }
 }
 
@@ -96,6 +98,7 @@ fn ours(question: &Question) -> Option<Outcome> {
         Asked::Count => table::count(words, c, p),
         Asked::Cycles => table::walk(words, c),
         Asked::Stack => table::stack(words, c, &question.callees),
+        Asked::Yields => table::yields(words, c, &question.callees),
         Asked::Order => table::order(words, question.room),
         Asked::Sheet => table::sheet(words, question.room),
     })
@@ -186,10 +189,20 @@ fn answer(question: &Question) -> (Outcome, Whose) {
     (outcome, whose)
 }
 
+fn coverage(number: i64) -> &'static str {
+    match number {
+        NO => "no",
+        YES => "yes",
+        NEVER => "never",
+        _ => panic!("there is no such answer"),
+    }
+}
+
 /// A line as `replay` prints it: for an order or a sheet how many chunks there are, and the whole tray.
 fn line(question: &Question, outcome: &Outcome) -> String {
     let text = |&value: &i64| match question.asked {
         Asked::Stack if value == ENDS => "ends".to_string(),
+        Asked::Yields => coverage(value).to_string(),
         _ => value.to_string(),
     };
     let (front, mut tray) = match outcome {
@@ -215,7 +228,7 @@ fn line(question: &Question, outcome: &Outcome) -> String {
 fn numbers(question: &Question) -> Vec<u32> {
     let (c, p) = (question.chunk as u64, question.position as u64);
     let room = match question.asked {
-        Asked::Stack => question.callees.len(),
+        Asked::Stack | Asked::Yields => question.callees.len(),
         _ => question.room,
     };
     let head = [

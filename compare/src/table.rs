@@ -35,7 +35,7 @@ pub struct Comparison {
 }
 
 /// A comparison more is a line more. Our side is a proved function in each.
-pub const COMPARISONS: [Comparison; 11] = [
+pub const COMPARISONS: [Comparison; 12] = [
     Comparison {
         name: "cycles",
         each: Each::Chunk,
@@ -70,6 +70,13 @@ pub const COMPARISONS: [Comparison; 11] = [
         is_figure: |_| false,
         ours: |case, c, _| stack(&case.words, c, &case.callees),
         original: |case, c, _| expected::stack(case, c),
+    },
+    Comparison {
+        name: "yields",
+        each: Each::Chunk,
+        is_figure: |_| false,
+        ours: |case, c, _| yields(&case.words, c, &case.callees),
+        original: |case, c, _| expected::yields(case, c),
     },
     Comparison {
         name: "order",
@@ -208,6 +215,18 @@ pub fn stack(words: &[u32], c: usize, callees: &[u32]) -> Outcome {
         Ok(true) if out[1] == 0 => Answer(vec![out[0], ENDS, out[2]]),
         Err(refusal) if out == before => unpacked(refusal),
         _ => Spoilt,
+    }
+}
+
+/// The answers of whether every way through gives up its turn.
+pub const NO: i64 = 0;
+pub const YES: i64 = 1;
+pub const NEVER: i64 = 2;
+
+pub fn yields(words: &[u32], c: usize, list: &[u32]) -> Outcome {
+    match pinnaclemug::yields(words, c as u32, list) {
+        Ok(coverage) => Answer(vec![i64::from(coverage)]),
+        Err(refusal) => unpacked(refusal),
     }
 }
 

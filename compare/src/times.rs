@@ -2,6 +2,7 @@
 use crate::bytecode::Module;
 use crate::case;
 use crate::classes::{self, Class, SEARCHING, chain, loops, plain};
+use crate::expected;
 use crate::form::{self, Chunk};
 use crate::pinnaclemug::{self, ROW};
 use crate::rounds::round;
@@ -79,6 +80,19 @@ fn cycles(name: &str, chunks: &[Chunk]) {
     timed(name, &words, ours, original);
 }
 
+/// The test of yields on the first chunk. Both have to give the same answer.
+fn yields(name: &str, chunks: &[Chunk]) {
+    let words = form::write(chunks);
+    let list = classes::list();
+    let always = oracle::listed(&list);
+    let original = |module: &Module| oracle::coverage(&module.chunks[0], black_box(&always));
+    let coverage = original(&parsed(&words)).expect("an answer");
+    let number = expected::coverage_number(coverage);
+    let ours = |words: &[u32]| pinnaclemug::yields(words, 0, black_box(&list));
+    assert_eq!(ours(&words).map(i64::from), Ok(number), "{name}");
+    timed(name, &words, ours, original);
+}
+
 fn heading(of: &str) {
     println!(
         "{:<38} {:>6} {:>8} {:>14} {:>10} {:>6}",
@@ -125,9 +139,17 @@ fn walks() {
     }
 }
 
+fn coverages() {
+    heading("yields of chunk 0");
+    for (name, chunks) in classes::of_yields() {
+        yields(name, &chunks);
+    }
+}
+
 /// The ratio is ours by the original with the reading, since ours reads the words too.
 pub fn print() {
     sheets();
     sheets_growing();
     walks();
+    coverages();
 }

@@ -128,6 +128,26 @@ pub fn stack(chunk: &Chunk, callees: &[u32]) -> Result<(u32, Option<i32>, u32), 
     Ok((walk.peak_above_initial, walk.delta, bytes))
 }
 
+/// The callees that a list has a 1 for, as the original has them.
+pub fn listed(list: &[u32]) -> BTreeSet<usize> {
+    (0..list.len()).filter(|&c| list[c] == 1).collect()
+}
+
+/// `analyze_yield_coverage` on the same range, from a start that has not yielded.
+pub fn coverage(chunk: &Chunk, always: &BTreeSet<usize>) -> Result<Option<bool>, Refusal> {
+    let (start, end) = range(chunk)?;
+    forward(chunk)?;
+    let ops = &chunk.ops;
+    Ok(analyze_yield_coverage(
+        ops,
+        start,
+        end,
+        false,
+        always,
+        &mut Vec::new(),
+    ))
+}
+
 /// `topological_call_order`, or the ring's chunk: chunks are named by their index.
 pub fn order(module: &Module) -> Result<Vec<usize>, usize> {
     topological_call_order(module)

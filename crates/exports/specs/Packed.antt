@@ -3,6 +3,7 @@ use Rattle.std.specs.Prelude.{Bool, true, false, List, [], ◌∷◌, ℕ, ◌+�
 use Rattle.rules.specs.Outcome.{Outcome, answer, refused}
 use Rattle.rules.specs.Cycles.{Cycles}
 use Rattle.rules.specs.Stack.{Stack, Delta, offset, ends}
+use Rattle.rules.specs.Yields.{Coverage, reached, never}
 
 -- how many numbers, chunks and places a refusal is kept whole for: 2^8, 2^24 and 2^32
 abbrev pub numbers : ℕ
@@ -42,6 +43,16 @@ flagged false value = 0
 abbrev pub packed_cycles : Outcome Cycles → ℕ
 packed_cycles (answer k) = k.cycles + flagged k.ends ends_flag + flagged k.cut cut_flag
 packed_cycles (refused n c p) = packed_refusal n c p
+
+-- yield coverage: no, yes, never
+abbrev pub coverage_number : Coverage → ℕ
+coverage_number (reached false) = 0
+coverage_number (reached true) = 1
+coverage_number never = 2
+
+abbrev pub packed_coverage : Outcome Coverage → ℕ
+packed_coverage (answer k) = coverage_number k
+packed_coverage (refused n c p) = packed_refusal n c p
 
 -- the stack walk: whether the row ends
 abbrev pub ends_mark : Delta → ℕ

@@ -7,13 +7,15 @@ pub mod lent;
 
 ghost use Rattle.std.specs.Prelude.{◌≡◌, ◌≤◌};
 ghost use Rattle.rules.specs.Sheet.{read_outcome, count_outcome, cycles_outcome};
+ghost use Rattle.rules.specs.Yields.{yield_outcome};
 ghost use Rattle.words.specs.Refusals.{outcome_of, refusal_number};
-ghost use Rattle.exports.specs.Packed.{packed_number, flagged, packed_cycles, packed_refusal};
+ghost use Rattle.exports.specs.Packed.{packed_number, flagged, packed_cycles, packed_coverage, packed_refusal};
 
 use count::entry::loop_count;
 use cycles::entry::cycle_walk;
 use words::reader::read_module;
 use words::refusals::Refused;
+use yields::entry::{Coverage, yield_coverage};
 
 // How many numbers, chunks and places a refusal is kept whole for: 2^8, 2^24 and 2^32.
 const NUMBERS: u64 = 256;
@@ -79,6 +81,18 @@ pub fn pm_cycles(words: &[u32], c: u32) -> u64
     let answer = cycle_walk(words, c as usize);
     match answer {
         Ok(figure) => figure.cycles as u64 + flag(figure.ends, ENDS) + flag(figure.cut, CUT),
+        Err(refused) => pack_refusal(refused),
+    }
+}
+
+// Yield coverage of chunk c over a list by chunk index, 1 for a callee that always yields: 0 for no, 1 for yes, 2 for never.
+pub fn pm_yields(words: &[u32], c: u32, list: &[u32]) -> u64
+    ensures { result ≡ packed_coverage (yield_outcome words.now c list.now) }
+{
+    match yield_coverage(words, c as usize, list) {
+        Ok(Coverage::No) => 0,
+        Ok(Coverage::Yes) => 1,
+        Ok(Coverage::Never) => 2,
         Err(refused) => pack_refusal(refused),
     }
 }

@@ -6,9 +6,10 @@
 ghost use Rattle.std.specs.Prelude.{◌≡◌, length};
 ghost use Rattle.rules.specs.Writing.{write_outcome, how_many, write_tray};
 ghost use Rattle.rules.specs.Sheet.{read_outcome, count_outcome, cycles_outcome, stack_outcome, order_outcome, order_tray, sheet_outcome, sheet_tray};
+ghost use Rattle.rules.specs.Yields.{yield_outcome};
 ghost use Rattle.order.specs.Entry.{length_of};
 ghost use Rattle.sheets.specs.Module.{count_of};
-ghost use Rattle.exports.specs.Packed.{packed_number, packed_cycles, packed_stack, stack_numbers};
+ghost use Rattle.exports.specs.Packed.{packed_number, packed_cycles, packed_coverage, packed_stack, stack_numbers};
 
 use exports::lent;
 
@@ -34,6 +35,14 @@ pub extern "C" fn pm_cycles(words: &[u32], c: u32) -> u64
     ensures { result ≡ packed_cycles (cycles_outcome words.now c) }
 {
     exports::pm_cycles(words, c)
+}
+
+// Yield coverage of chunk c over a list by chunk index, 1 for a callee that always yields: 0 for no, 1 for yes, 2 for never.
+#[unsafe(no_mangle)]
+pub extern "C" fn pm_yields(words: &[u32], c: u32, list: &[u32]) -> u64
+    ensures { result ≡ packed_coverage (yield_outcome words.now c list.now) }
+{
+    exports::pm_yields(words, c, list)
 }
 
 // The stack walk of chunk c over the callees' bytes: peak, delta (0 where the row ends) and bytes into out; 1 where the row ends, else 0.

@@ -12,6 +12,7 @@ use std::io::Write;
 use words::limits::CHUNKS;
 use words::reader::read_module;
 use words::refusals::Refused;
+use yields::entry::{Coverage, yield_coverage};
 
 // The most numbers of a tray: a row a chunk, and a number more for each.
 pub const TRAY: usize = (WIDTH + 1) * CHUNKS;
@@ -25,10 +26,12 @@ pub enum Question {
     Read = 1,
     Count = 2,
     Cycles = 3,
-    // The only question with callees.
+    // With the callees' bytes.
     Stack = 4,
     Order = 5,
     Sheet = 6,
+    // With a list by chunk index, 1 for a callee that always yields, in their place.
+    Yields = 7,
 }
 
 // A number that no question has.
@@ -46,6 +49,7 @@ impl TryFrom<u32> for Question {
             4 => Ok(Question::Stack),
             5 => Ok(Question::Order),
             6 => Ok(Question::Sheet),
+            7 => Ok(Question::Yields),
             _ => Err(NoQuestion(number)),
         }
     }
@@ -88,6 +92,16 @@ fn show_stack<W: Write>(out: &mut W, words: &[u32], c: usize, callees: &[u32]) -
             Some(offset) => write!(out, "{} {} {}", stack.peak.0, offset, stack.bytes.0),
             None => write!(out, "{} ends {}", stack.peak.0, stack.bytes.0),
         },
+        Err(refused) => write!(out, "{refused}"),
+    }
+}
+
+// Yes, no or never.
+fn show_coverage<W: Write>(out: &mut W, words: &[u32], c: usize, list: &[u32]) -> io::Result<()> {
+    match yield_coverage(words, c, list) {
+        Ok(Coverage::Yes) => write!(out, "yes"),
+        Ok(Coverage::No) => write!(out, "no"),
+        Ok(Coverage::Never) => write!(out, "never"),
         Err(refused) => write!(out, "{refused}"),
     }
 }
@@ -137,5 +151,6 @@ pub fn answer<W: Write>(
         Question::Stack => show_stack(out, words, asked.chunk, callees),
         Question::Order => show_tray(out, asked.room, |tray| topological_call_order(words, tray)),
         Question::Sheet => show_tray(out, asked.room, |tray| module_sheet(words, tray)),
+        Question::Yields => show_coverage(out, words, asked.chunk, callees),
     }
 }

@@ -1,6 +1,6 @@
-// Answers questions from standard input, a line each: the answer's numbers, or a refusal, and the whole tray where the question has one. A question is 32-bit
-// numbers, the lowest byte first: which question, chunk and position (64 bits each, the low half first), room (the tray's length, or how many callees there are)
-// and how many words; then the callees' bytes, then the words.
+// Answers questions from standard input, a line each: the answer's numbers or word, or a refusal, and the whole tray where the question has one. A question is
+// 32-bit numbers, the lowest byte first: which question, chunk and position (64 bits each, the low half first), room (the tray's length, or that of a list by
+// chunk index) and how many words; then the list, then the words.
 
 #![tactic(auto)]
 
@@ -63,11 +63,8 @@ fn next_question<R: Read, W: Write>(input: &mut R, out: &mut W) -> io::Result<Op
     if TRAY < asked.room || WORDS < *n as usize {
         return Ok(None);
     }
-    let callee_count = if *number == Question::Stack as u32 {
-        asked.room
-    } else {
-        0
-    };
+    let with_list = *number == Question::Stack as u32 || *number == Question::Yields as u32;
+    let callee_count = if with_list { asked.room } else { 0 };
     let Some(callees) = take::<TRAY, R>(input, callee_count) else {
         return Ok(None);
     };

@@ -6,7 +6,6 @@ pub mod Backwards
 pub mod OpenBlocks
 pub mod OpenLoops
 pub mod LoopTurns
-pub mod BlockTurns
 pub mod Openings
 pub mod RowFitting
 pub mod FitLaws

@@ -1,4 +1,4 @@
-// What stands at a position of a row: the one place where a walk reads what an op does.
+// What stands at a position of a row: the one place where a walk reads how a row goes on there.
 ghost use Rattle.std.specs.Prelude.{ℕ, get_or};
 ghost use Rattle.rows.specs.Opens.{Opens, TellsCall, StepFits};
 
@@ -6,7 +6,7 @@ use words::fields;
 use words::fields::is;
 use words::kinds::Kind;
 
-// An op that is passed over, a Call by its callee, one that ends the row, a break, or a block by the positions of its ends.
+// An op that is passed over, a Call by its callee, Return or Trap, a break, or a block by the positions of its ends.
 #[derive(Clone, Copy, Debug, PartialEq, Eq)]
 pub enum Block {
     Plain,

@@ -1,4 +1,4 @@
-// The row check: one pass over a range, with the ends of the open blocks in a list.
+// The row check: one pass over a range, with the end of the innermost open part at hand and the ends of the parts around it in a list.
 ghost use Rattle.std.specs.Prelude.{◌≡◌, false, ◌*◌, ◌-◌, ◌≤◌, ◌<◌, length};
 ghost use Rattle.rules.specs.Limits.{most_words};
 ghost use Rattle.rules.specs.Ops.{op_at};
@@ -88,38 +88,40 @@ fn opens_at(ops: &[u32], i: usize, to: usize, in_loop: bool) -> Opening
 }
 
 // Whether a range is a row, with room for so many open blocks: a block takes two ops, so half the range is room enough, and no more than a module has words,
-// which fits in memory. A block that is open keeps the position at which its part ends; there an Else goes on to its own target, and EndIf and EndLoop close
-// the block.
+// which fits in memory. The range is the outermost part, and a block that is open has its part inside another. Each op is held against the end of the
+// innermost, so that is a variable; the list, whose length lies in memory, has the ends of the parts around it, and only a block that opens or closes touches
+// it. At the end of a part an Else goes on to its own target, and EndIf and EndLoop close the block.
 fn row_within<const N: usize>(chunk: &Chunk<'_>, range: Range) -> bool
     requires { (range.from ≤ range.to) × (range.to ≤ length chunk.now.ops.now) × (range.to - range.from ≤ 2 * N) × (N ≤ most_words) }
     ensures { result ≡ is_row (parse (range.to - range.from) (op_at chunk.now.ops.now) false range.from range.to) }
 {
     let ops = chunk.ops;
-    let mut ends: ArrayVec<u32, N> = ArrayVec::new();
+    let mut around: ArrayVec<u32, N> = ArrayVec::new();
+    let mut bound = range.to;
     let mut loops: usize = 0;
     for i in range.from..range.to {
-        let bound = match ends.last() {
-            Some(end) => *end as usize,
-            None => range.to,
-        };
         if i < bound {
-            let opening = opens_at(ops, i, bound, 0 < loops);
-            match opening {
+            match opens_at(ops, i, bound, 0 < loops) {
                 Opening::Plain => {}
-                Opening::Block(end) => ends.push(end as u32),
+                Opening::Block(end) => {
+                    around.push(bound as u32);
+                    bound = end;
+                }
                 Opening::Loop(end) => {
-                    ends.push(end as u32);
+                    around.push(bound as u32);
+                    bound = end;
                     loops += 1;
                 }
                 Opening::Crossed => return false,
             }
+        } else if is(ops[i], Kind::Else) {
+            bound = (ops[i] % fields::B_UNIT) as usize;
         } else {
-            let _ = ends.pop();
-            if is(ops[i], Kind::Else) {
-                ends.push(ops[i] % fields::B_UNIT);
-            } else if is(ops[i], Kind::EndLoop) {
+            if is(ops[i], Kind::EndLoop) {
                 loops -= 1;
             }
+            // The list is not empty here: only the outermost part has none around it, and that ends with the range.
+            bound = around.pop().unwrap() as usize;
         }
     }
     true

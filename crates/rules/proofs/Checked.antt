@@ -1,5 +1,5 @@
--- The cases of specs/Cases, specs/CalleeCases, specs/MarkCases, specs/StepCases, specs/SureCases, specs/WritingCases and specs/TableCases, each list as one
--- checked list, and the table that document 01's groups print. Assumes nothing.
+-- The cases of specs/Cases, specs/CalleeCases, specs/MarkCases, specs/StepCases, specs/SureCases, specs/YieldCases, specs/WritingCases and specs/TableCases,
+-- each list as one checked list, and the table that document 01's groups print. Assumes nothing.
 use mathlib.Core.Path.{refl}
 use mathlib.Core.List.{flat_map}
 use Rattle.rules.specs.Ops.{in_groups}
@@ -11,6 +11,8 @@ use Rattle.rules.specs.Cycles.{row_cost}
 use Rattle.rules.specs.Stack.{row_height}
 use Rattle.rules.specs.Order.{member, callees_in, visit_each, visit, up_from}
 use Rattle.rules.specs.Sheet.{lines_in, tray_numbers}
+use Rattle.rules.specs.Paths.{settle, path}
+use Rattle.rules.specs.Yields.{row_cover, depth_of, ends_at, gives_up}
 use Rattle.rules.specs.Text.{words_of, bytes_in, digits, lines_text}
 use Rattle.rules.specs.Writing.{trimmed, every, held_constants, held_ops, held}
 use Rattle.rules.specs.Table.{lines_of, fields_of, number_from, numbers_of, overlaps_any, in_some, all_kinds, groups_from}
@@ -20,6 +22,7 @@ use Rattle.rules.specs.CalleeCases.{shared}
 use Rattle.rules.specs.MarkCases.{marked}
 use Rattle.rules.specs.StepCases.{stepped}
 use Rattle.rules.specs.SureCases.{unsure}
+use Rattle.rules.specs.YieldCases.{yielded}
 use Rattle.rules.specs.WritingCases.{shelved}
 use Rattle.rules.specs.TableCases.{grouped}
 
@@ -62,6 +65,11 @@ stepped_hold = (refl, (refl, (refl, (refl, (refl, (refl, (refl, (refl, (refl, (r
 pub unsure_hold : AllHold unsure
 unfolding flat_map in_groups broken_at take_while drop_while constants_of extras_of chunks_of parse first_of first_backward stray_break last_set array_length never_sets holds in_part array_stops all_in_row row_cost row_height member callees_in visit_each visit up_from lines_in
 unsure_hold = (refl, (refl, (refl, (refl, (refl, (refl, (refl, (refl, (refl, (refl, (refl, (refl, (refl, (refl, (refl, (refl, (refl, (refl, (refl, (refl, (refl, (refl, (refl, (refl, ((refl, refl, refl, refl), ((refl, refl, refl, refl), ((refl, refl, refl, refl), ((refl, refl, refl, refl), ((refl, refl, refl, refl), (refl, (refl, (refl, (refl, (refl, (refl, (refl, (refl, (refl, (refl, (refl, (refl, (refl, (refl, (refl, (refl, (refl, (refl, ((tt, tt), ((tt, tt), ((tt, tt), tt))))))))))))))))))))))))))))))))))))))))))))))))))
+
+-- yield coverage
+pub yielded_hold : AllHold yielded
+unfolding flat_map in_groups broken_at take_while drop_while constants_of extras_of chunks_of parse first_of first_backward stray_break last_set never_sets row_cost member callees_in visit_each visit up_from settle path row_cover depth_of ends_at gives_up
+yielded_hold = (refl, (refl, (refl, (refl, (refl, (refl, (refl, (refl, (refl, (refl, (refl, (refl, (refl, (refl, (refl, (refl, (refl, (refl, (refl, (refl, (refl, (refl, ((refl, refl), ((refl, refl), ((refl, refl), (refl, ((refl, refl), (refl, ((refl, refl, refl), ((refl, refl), (refl, (refl, (refl, (refl, (refl, (refl, (refl, (refl, (refl, (refl, ((refl, refl), (refl, ((refl, refl), (refl, (refl, (refl, (refl, (refl, (refl, (refl, (refl, (refl, (refl, (refl, ((refl, refl), (refl, (refl, ((refl, refl), (refl, tt)))))))))))))))))))))))))))))))))))))))))))))))))))))))))))
 
 -- the writer
 pub shelved_hold : AllHold shelved

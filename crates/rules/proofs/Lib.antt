@@ -56,6 +56,8 @@ pub mod VisitPlaces
 pub mod NeverReach
 pub mod SureKept
 pub mod CountsKept
+pub mod CoverVisits
+pub mod YieldHolds
 pub mod Backward
 pub mod SameRow
 pub mod RowSums
@@ -69,6 +71,7 @@ pub mod Witness
 pub mod CalleeWitness
 pub mod ValuedTest
 pub mod SureWitness
+pub mod YieldWitness
 pub mod Every
 pub mod Trimmed
 pub mod Written

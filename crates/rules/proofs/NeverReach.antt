@@ -24,7 +24,7 @@ use Rattle.rules.proofs.Moves.{placed, op_in}
 use Rattle.rules.proofs.Runs.{EveryFrame, Leads, GoodSpot, goes, after_op, from_start, settled, leads_as}
 use Rattle.rules.proofs.RowTree.{chunk_row_lem}
 use Rattle.rules.proofs.Visits.{Visits, LoopAt, row_visits}
-use Rattle.rules.proofs.VisitPlaces.{Ground, VisitPlace, VisitedOrOut, EntryVisited, visit_taken, stands_visited, stands_last, stands_first}
+use Rattle.rules.proofs.VisitPlaces.{Ground, none_open, ground_of, VisitPlace, VisitedOrOut, EntryVisited, visit_taken, stands_visited, stands_last, stands_first}
 
 -- one entry is open
 abbrev Alone : List Entry → Type 0
@@ -44,9 +44,6 @@ alone_passed cs b n (m ∷ es) h = h
 not_open : {P : Type 0} (es : List Entry) → some_entry es ≡ true → es ≡ [] → P
 not_open es h e = absurd (let z : ◌≡◌ {A = ℕ} 0 1 = cc in omega arith)
 
-pub none_open : {P : Type 0} (n : Entry) (es : List Entry) → n ∷ es ≡ [] → P
-none_open n es h = absurd (let z : ◌≡◌ {A = ℕ} 0 1 = cc in omega arith)
-
 -- The body from behind its Loop up to EndLoop at e, in chunk c.
 module _ (cs : List Chunk) (c e : ℕ) where
   -- The body as the outermost row: one entry is open in it, and none behind a break out of it. No place is at its end, and nothing is said of the loops inside.
@@ -55,6 +52,7 @@ module _ (cs : List Chunk) (c e : ℕ) where
       record {
         last = e;
         Visited = λ i. Unit {0};
+        Passes = λ i. Unit {0};
         AtLast = ⊥;
         Open = Alone;
         Free = λ es. es ≡ [];
@@ -76,7 +74,7 @@ module _ (cs : List Chunk) (c e : ℕ) where
 
   leads : (d i : ℕ) (es : List Entry) (w : Way) → d ≡ c → In i es → Leads cs (Unit {0}) Inside (shape_of (op_in cs d i)) w d i es tt
   leads d i es w same s =
-      rw same (visit_taken cs c body_ground i es w s (before_end i es s))
+      rw same (visit_taken cs c body_ground i es w s (before_end i es s) tt)
 
   not_there : (s : Spot) → GoodSpot cs (Unit {0}) Inside s (λ k. tt) → in_loop s ≡ true → stands_at e s ≡ true → ⊥
   not_there over g l h = let z : ◌≡◌ {A = ℕ} 0 1 = cc in omega arith
@@ -122,8 +120,8 @@ module _ (cs : List Chunk) (c e : ℕ) where
       let same : field_a (op_in cs c i) - 1 ≡ e = omega arith in
       let first = placed c i (pos 0) (pos 0) [] in
       let x = entry_at cs (suc e) first in
-      let row : Visits body_ground.Visited ⊥ (Unit {0}) b =
-      row_visits body_ground.Visited fee Counted (op_in cs c) e (λ i e b body at v n. tt) b true (suc i) e 0 unbroken body ⊥ (Unit {0}) (omega arith) w v
+      let row : Visits body_ground.Visited body_ground.Passes ⊥ (Unit {0}) b =
+      row_visits body_ground.Visited body_ground.Passes fee Counted (op_in cs c) e (λ i e b body at v n. tt) b true (suc i) e 0 unbroken body ⊥ (Unit {0}) (omega arith) w v
       (λ f. let z : ◌≡◌ {A = ℕ} 0 1 = cc in omega arith) (λ m. tt) in
       let at : In (suc i) (x ∷ []) = stands_first cs c body_ground b true (suc i) (x ∷ []) w row tt in
       let f = placed c (suc i) (depth_behind cs first) (pos 0) (x ∷ []) in
@@ -139,16 +137,7 @@ module _ (cs : List Chunk) (fee : ℕ → ℕ → ℕ) (Counted : ℕ → ℕ �
 
   -- the range of a chunk, in which no entry is open
   abbrev pub range_ground : ℕ → Ground cs
-  range_ground k =
-      record {
-        last = (range_at cs k).to;
-        Visited = CountedIfReached k;
-        AtLast = Unit {0};
-        Open = λ es. es ≡ [];
-        Free = λ es. ⊥;
-        left = λ n es h. none_open n es h;
-        passed = λ b n es h. none_open n es h;
-      }
+  range_ground k = ground_of cs (range_at cs k).to (CountedIfReached k) (λ i. Unit {0}) (Unit {0})
 
   -- a frame of chunk k stands in a place of its range
   abbrev InChunk : ℕ → ℕ → List Entry → Unit {0} → Type 0
@@ -160,7 +149,7 @@ module _ (cs : List Chunk) (fee : ℕ → ℕ → ℕ) (Counted : ℕ → ℕ �
       let w = (chunk_row_lem (chunk_at cs k) r is).is_row in (
         refl,
         inl (stands_first cs k (range_ground k) r false (range_at cs k).from [] w
-            (row_visits (CountedIfReached k) (fee k) (Counted k) (op_in cs k) (range_at cs k).to (enters k) r false (range_at cs k).from (range_at cs k).to 0 unbroken cost
+            (row_visits (CountedIfReached k) (λ i. Unit {0}) (fee k) (Counted k) (op_in cs k) (range_at cs k).to (enters k) r false (range_at cs k).from (range_at cs k).to 0 unbroken cost
             (Unit {0}) (Unit {0}) (omega arith) w v (λ f. tt) (λ m. tt)) refl),
       )
     where
@@ -185,7 +174,7 @@ module _ (cs : List Chunk) (fee : ℕ → ℕ → ℕ) (Counted : ℕ → ℕ �
   does k i es m n w lt (same, inl s) d =
       leads_as cs (Unit {0}) (VisitedOrOut cs k (range_ground k)) InChunk k tt (λ i es a. a)
       (shape_of (op_in cs k i)) w i es
-      (visit_taken cs k (range_ground k) i es w s (λ e. omega arith))
+      (visit_taken cs k (range_ground k) i es w s (λ e. omega arith) tt)
   does k i es m n w lt (same, inr s) d = absurd s
 
   -- every path, callees run or not

@@ -22,6 +22,11 @@ EveryFrame cs run P s [] = Unit {0}
 EveryFrame cs run P over (w ∷ ws) = Unit {0}
 EveryFrame cs run P (here f gs) (w ∷ ws) = P f × EveryFrame cs run P (go cs run f gs w) ws
 
+-- a frame that takes an op stands before its range's end
+pub before_end : (cs : List Chunk) (f : Frame) → in_range cs f ≡ true → f.at < (range_at cs f.chunk).to
+before_end cs f h =
+    ltb-true f.at (range_at cs f.chunk).to (both (leb (range_at cs f.chunk).from f.at) (ltb f.at (range_at cs f.chunk).to) h).1
+
 module _ (cs : List Chunk) (M : Type 0) (G : ℕ → ℕ → List Entry → M → Type 0) where
   -- out of the innermost loop, and back to its start
   abbrev pub Outward : ℕ → List Entry → M → Type 0
@@ -131,9 +136,8 @@ module _ (cs : List Chunk) (M : Type 0) (G : ℕ → ℕ → List Entry → M �
           → Does f.chunk f.at f.entries (mem (length gs)) w (next (length gs)) → ((k : ℕ) → k < length gs → next k ≡ mem k)
           → GoodSpot (go cs run f gs w) next
       after_op f gs mem next w g d same =
-          let before = (both (leb (range_at cs f.chunk).from f.at) (ltb f.at (range_at cs f.chunk).to) g.0).1 in
           goes f gs next (waiting gs mem next same g.2) (shape_of (op_of cs f)) w
-          (does f.chunk f.at f.entries (mem (length gs)) (next (length gs)) w (ltb-true f.at (range_at cs f.chunk).to before) g.1 d)
+          (does f.chunk f.at f.entries (mem (length gs)) (next (length gs)) w (before_end cs f g.0) g.1 d)
 
   pub from_start : (c : ℕ) (mem : ℕ → M) → G c (range_at cs c).from [] (mem 0) → GoodSpot (begin cs c) mem
   from_start c mem start = settled (record { chunk = c; at = (range_at cs c).from; depth = pos 0; base = pos 0; entries = [] }) [] mem start tt

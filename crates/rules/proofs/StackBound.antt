@@ -6,7 +6,7 @@ use mathlib.Core.List.{List, [], ◌∷◌}
 use Prim.Native.Nat.{ℕ, suc, ◌+◌, ◌≤◌, ◌<◌}
 use native.Mathlib.Omega.{arith}
 use borrow.Author.Tests.{ltb-true, eqb-true}
-use lib.Dec.{eqb, leb, ltb}
+use lib.Dec.{eqb, ltb}
 use lib.IntN.{ℤ, pos, neg_ℤ, ◌+ℤ◌, ◌-ℤ◌}
 use lib.ListN.{length}
 use Rattle.rules.specs.Ops.{kind, field_a, field_b, figures_of, op_at}
@@ -24,6 +24,7 @@ use Rattle.rules.proofs.Flags.{both}
 use Rattle.rules.proofs.Shapes.{shape_tells}
 use Rattle.rules.proofs.SheetLines.{sheet_lines, accepted_sheet}
 use Rattle.rules.proofs.SignedOrder.{AtMost, sum_parts, minus_parts, at_most_above}
+use Rattle.rules.proofs.Runs.{before_end}
 use Rattle.rules.proofs.Standing.{Part, whole, arm, first, body, InPlace, Standing, GoesOn, taken}
 use Rattle.rules.proofs.ChunkTop.{called, quiet_chunk, growth_rise, call_rise_lem, StandsIn, Tall, line_tall}
 
@@ -202,9 +203,9 @@ module _ (cs : List Chunk) (lines : List Line) (tall : (c : ℕ) → c < length 
 
     frame_taken : in_range cs f ≡ true → OpLow × Leads (shape_of (op_of cs f)) f.entries
     frame_taken e =
-        let before = (both (leb (range_at cs f.chunk).from f.at) (ltb f.at (range_at cs f.chunk).to) e).1 in
+        let before = before_end cs f e in
         taken _ _ _ _ _ (quiet_chunk (chunk_at cs f.chunk) h.fit.callees) f.at f.depth f.entries h.stands
-        (λ same. omega (arith, ltb-true f.at (range_at cs f.chunk).to before))
+        (λ same. omega (arith, before))
 
   -- so no op of a path goes over the limit
   path_low : (s : Spot) (ways : List Way) → GoodSpot s → KeepsDepths cs true s ways → path_depth cs (path cs true s ways) ≤ limit

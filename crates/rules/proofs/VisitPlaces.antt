@@ -1,5 +1,5 @@
--- Where a path stands in a row that is visited, and that each way on leads to such a place again: a path takes no op that the walk does not visit.
--- Assumes nothing.
+-- Where a path stands in a row that is visited, and that each way on leads to such a place again, as long as the path passes its ops: it takes no op that the
+-- walk does not visit. Assumes nothing.
 use mathlib.Core.Path.{◌≡◌, refl}
 use mathlib.Core.Bool.{Bool, true, false, ◌&&◌}
 use mathlib.Core.List.{List, [], ◌∷◌}
@@ -29,16 +29,34 @@ data VisitPart : Type 0 where
   -- a loop's body: Loop at p, EndLoop at e, the body, the rest behind the loop, and the part around
   body : ℕ → ℕ → Row → Row → VisitPart → VisitPart
 
--- The outermost row that a path is followed in: up to which position, and what holds of each Loop that is met, at the row's end, of the entries that are open
--- in it, and of those behind a break out of it.
+-- The outermost row that a path is followed in: up to which position, and what holds of each Loop that is met, of each op that is taken, at the row's end, of
+-- the entries that are open in it, and of those behind a break out of it.
 pub record Ground (cs : List Chunk) : Type 1 where
   pub last : ℕ
   pub Visited : ℕ → Type 0
+  pub Passes : ℕ → Type 0
   pub AtLast : Type 0
   pub Open : List Entry → Type 0
   pub Free : List Entry → Type 0
   pub left : (n : Entry) (es : List Entry) → Open (n ∷ es) → Free es
   pub passed : (b : Bool) (n : Entry) (es : List Entry) → Open (n ∷ es) → Open (count_pass cs b n ∷ es)
+
+pub none_open : {P : Type 0} (n : Entry) (es : List Entry) → n ∷ es ≡ [] → P
+none_open n es h = absurd (let z : ◌≡◌ {A = ℕ} 0 1 = cc in omega arith)
+
+-- a chunk's range up to `last` as the outermost row: no entry is open in it, and no break leads out of it
+abbrev pub ground_of : (cs : List Chunk) → ℕ → (ℕ → Type 0) → (ℕ → Type 0) → Type 0 → Ground cs
+ground_of cs last Visited Passes AtLast =
+    record {
+      last = last;
+      Visited = Visited;
+      Passes = Passes;
+      AtLast = AtLast;
+      Open = λ es. es ≡ [];
+      Free = λ es. ⊥;
+      left = λ n es h. none_open n es h;
+      passed = λ b n es h. none_open n es h;
+    }
 
 module _ (cs : List Chunk) (c : ℕ) (g : Ground cs) where
   -- the op at a position
@@ -60,8 +78,8 @@ module _ (cs : List Chunk) (c : ℕ) (g : Ground cs) where
     -- what holds at a part's end
     After : VisitPart → Type 0
     After root = g.AtLast
-    After (arm t r k) = Visits g.Visited (After k) (BrokenOut k) r
-    After (first e t r k) = Visits g.Visited (After k) (BrokenOut k) r
+    After (arm t r k) = Visits g.Visited g.Passes (After k) (BrokenOut k) r
+    After (first e t r k) = Visits g.Visited g.Passes (After k) (BrokenOut k) r
     After (body p e b r k) = Unit {0}
 
     -- and behind a break out of the innermost loop
@@ -69,7 +87,7 @@ module _ (cs : List Chunk) (c : ℕ) (g : Ground cs) where
     BrokenOut root = Unit {0}
     BrokenOut (arm t r k) = BrokenOut k
     BrokenOut (first e t r k) = BrokenOut k
-    BrokenOut (body p e b r k) = Visits g.Visited (After k) (BrokenOut k) r
+    BrokenOut (body p e b r k) = Visits g.Visited g.Passes (After k) (BrokenOut k) r
 
   -- each open entry belongs to a loop around, which is visited
   abbrev InPlace : VisitPart → List Entry → Type 0
@@ -79,14 +97,14 @@ module _ (cs : List Chunk) (c : ℕ) (g : Ground cs) where
   InPlace (body p e b r k) [] = ⊥
   InPlace (body p e b r k) (n ∷ es) =
       (shape_of (op e) ≡ end_loop) × Rows (suc e) (end_of k) r × InPlace k es × (n.target ≡ suc e) × (n.loop ≡ p) × Rows (suc p) e b
-      × Visits g.Visited (Unit {0}) (Visits g.Visited (After k) (BrokenOut k) r) b × g.Visited p
+      × Visits g.Visited g.Passes (Unit {0}) (Visits g.Visited g.Passes (After k) (BrokenOut k) r) b × g.Visited p
 
   -- A path stands before position i with these entries open: what is left of its part is `row`, whose Loops are visited as it goes.
   pub record VisitPlace (i : ℕ) (es : List Entry) : Type 0 where
     part : VisitPart
     row : Row
     is : Rows i (end_of part) row
-    visits : Visits g.Visited (After part) (BrokenOut part) row
+    visits : Visits g.Visited g.Passes (After part) (BrokenOut part) row
     placed : InPlace part es
 
   -- in a place, or out of the outermost row
@@ -119,8 +137,8 @@ module _ (cs : List Chunk) (c : ℕ) (g : Ground cs) where
   entry_passed true (body q e d r k) n es p = p
   entry_passed false (body q e d r k) n es p = p
 
-  tests : (i : ℕ) (es : List Entry) (k : VisitPart) (r : Row) (w : Way) → Rows (suc i) (end_of k) r → Visits g.Visited (After k) (BrokenOut k) r → BrokenOut k → InPlace k es
-      → To breaks_if w i es
+  tests : (i : ℕ) (es : List Entry) (k : VisitPart) (r : Row) (w : Way) → Rows (suc i) (end_of k) r
+      → Visits g.Visited g.Passes (After k) (BrokenOut k) r → BrokenOut k → InPlace k es → To breaks_if w i es
   tests i [] k r on is v b p = inside (record { part = k; row = r; is = is; visits = v; placed = p })
   tests i (n ∷ es) k r on is v b p =
       inside (record {
@@ -147,24 +165,24 @@ module _ (cs : List Chunk) (c : ℕ) (g : Ground cs) where
   end_taken (body q f b r k) i (n ∷ es) w e before a p = rw (e, p.0) (inside (repeats q f b r k n es p))
 
   -- and before it, before the first op of what is left
-  row_taken : (r : Row) (k : VisitPart) (l : Bool) (i : ℕ) (es : List Entry) (w : Way) → IsRow op l i (end_of k) r → (i ≡ g.last → ⊥)
-      → Visits g.Visited (After k) (BrokenOut k) r → InPlace k es → To (shape_of (op i)) w i es
-  row_taken end k l i es w is before v p = end_taken k i es w is before v p
-  row_taken (step j r) k l i es w is before v p =
-      let next : VisitPlace (suc i) es = record { part = k; row = r; is = (l, is.3); visits = v; placed = p } in
+  row_taken : (r : Row) (k : VisitPart) (l : Bool) (i : ℕ) (es : List Entry) (w : Way) → IsRow op l i (end_of k) r → (i ≡ g.last → ⊥) → g.Passes i
+      → Visits g.Visited g.Passes (After k) (BrokenOut k) r → InPlace k es → To (shape_of (op i)) w i es
+  row_taken end k l i es w is before taken v p = end_taken k i es w is before v p
+  row_taken (step j r) k l i es w is before taken v p =
+      let next : VisitPlace (suc i) es = record { part = k; row = r; is = (l, is.3); visits = v (rw is.0 taken); placed = p } in
       by_plain (λ s. To s w i es) (inside next) (λ k. inside next) (shape_of (op i)) is.2
-  row_taken (stop j r) k l i es w is before v p = by_ending (λ s. To s w i es) tt tt (shape_of (op i)) is.2
-  row_taken (leave j r) k l i es w is before v p = rw is.2 (breaks_out k es p v)
-  row_taken (leave_if j r) k l i es w is before v p = rw is.2 (tests i es k r w (l, is.4) v.1 v.0 p)
-  row_taken (if_then j t q r) k l i es w is before v p =
+  row_taken (stop j r) k l i es w is before taken v p = by_ending (λ s. To s w i es) tt tt (shape_of (op i)) is.2
+  row_taken (leave j r) k l i es w is before taken v p = rw is.2 (breaks_out k es p v)
+  row_taken (leave_if j r) k l i es w is before taken v p = rw is.2 (tests i es k r w (l, is.4) v.1 v.0 p)
+  row_taken (if_then j t q r) k l i es w is before taken v p =
       rw is.1 (if_goes t i es w
       (record { part = arm t r k; row = q; is = (l, is.5); visits = v.0; placed = (is.4, (l, is.6), p) })
       (record { part = arm t r k; row = end; is = (l, refl); visits = v.1; placed = (is.4, (l, is.6), p) }))
-  row_taken (if_else j e t q s r) k l i es w is before v p =
+  row_taken (if_else j e t q s r) k l i es w is before taken v p =
       rw is.1 (if_goes (suc e) i es w
       (record { part = first e t r k; row = q; is = (l, is.7); visits = v.0; placed = (is.6, (l, is.9), p, is.5, is.3) })
       (record { part = arm t r k; row = s; is = (l, is.8); visits = v.1; placed = (is.6, (l, is.9), p) }))
-  row_taken (loop j e b r) k l i es w is before v p =
+  row_taken (loop j e b r) k l i es w is before taken v p =
       rw is.1 (λ d.
       inside (record {
         part = body i e b r k;
@@ -174,8 +192,8 @@ module _ (cs : List Chunk) (c : ℕ) (g : Ground cs) where
         placed = (is.4, (l, is.6), p, refl, refl, (true, is.5), v.1, rw is.0 at v.0);
       }))
 
-  pub visit_taken : (i : ℕ) (es : List Entry) (w : Way) → VisitPlace i es → (i ≡ g.last → ⊥) → To (shape_of (op i)) w i es
-  visit_taken i es w s before = row_taken s.row s.part s.is.0 i es w s.is.1 before s.visits s.placed
+  pub visit_taken : (i : ℕ) (es : List Entry) (w : Way) → VisitPlace i es → (i ≡ g.last → ⊥) → g.Passes i → To (shape_of (op i)) w i es
+  visit_taken i es w s before taken = row_taken s.row s.part s.is.0 i es w s.is.1 before taken s.visits s.placed
 
   -- the innermost entry's loop is visited
   abbrev pub EntryVisited : List Entry → Type 0
@@ -200,7 +218,8 @@ module _ (cs : List Chunk) (c : ℕ) (g : Ground cs) where
   inner_ends (body q e b r k) [] p = absurd p
   inner_ends (body q e b r k) (n ∷ es) p = omega (arith, row_forward op r p.1.0 (suc e) (end_of k) p.1.1, inner_ends k es p.2)
 
-  at_last : (k : VisitPart) (r : Row) (l : Bool) (es : List Entry) → InPlace k es → IsRow op l g.last (end_of k) r → Visits g.Visited (After k) (BrokenOut k) r → g.AtLast
+  at_last : (k : VisitPart) (r : Row) (l : Bool) (es : List Entry) → InPlace k es → IsRow op l g.last (end_of k) r
+      → Visits g.Visited g.Passes (After k) (BrokenOut k) r → g.AtLast
   at_last root end l es p w v = v
   at_last root (step j r) l es p w v = absurd (omega arith)
   at_last root (stop j r) l es p w v = absurd (omega arith)
@@ -221,5 +240,6 @@ module _ (cs : List Chunk) (c : ℕ) (g : Ground cs) where
   stands_last es s = at_last s.part s.row s.is.0 es s.placed s.is.1 s.visits
 
   -- before the first op of the outermost row
-  pub stands_first : (r : Row) (l : Bool) (i : ℕ) (es : List Entry) → IsRow op l i g.last r → Visits g.Visited g.AtLast (Unit {0}) r → g.Open es → VisitPlace i es
+  pub stands_first : (r : Row) (l : Bool) (i : ℕ) (es : List Entry) → IsRow op l i g.last r → Visits g.Visited g.Passes g.AtLast (Unit {0}) r → g.Open es
+      → VisitPlace i es
   stands_first r l i es w v p = record { part = root; row = r; is = (l, w); visits = v; placed = p }

@@ -1,4 +1,4 @@
--- The rows that the cycle walk visits, with what holds at each part's end, and that what it answers tells them: a part whose answer ends has no
+-- The rows that a walk visits, with what holds at each part's end, and that what the cycle walk answers tells its own: a part whose answer ends has no
 -- way to its end, and a loop is visited once its row gets there. Assumes nothing.
 use mathlib.Core.Path.{◌≡◌, refl, ap}
 use mathlib.Core.Bool.{Bool, true, false, ◌&&◌, and-false}
@@ -16,13 +16,13 @@ pub record LoopAt (op : ℕ → ℕ) (to i e : ℕ) (b : Row) : Type 0 where
   pub inside : e < to
   pub rows : IsRow op true (suc i) e b
 
--- What is asked of each Loop that is met.
-module _ (Visited : ℕ → Type 0) where
-  -- A row as the walk visits it: each Loop that is met is `Visited`, A holds at the row's end, and B behind its breaks. At the end of a loop's body nothing is
-  -- asked.
+-- What holds of each Loop that is met, and on what a plain op is passed.
+module _ (Visited Passes : ℕ → Type 0) where
+  -- A row as a walk visits it: each Loop that is met is `Visited`, what is behind a plain op is visited where the op `Passes`, A holds at the row's end, and B
+  -- behind its breaks. At the end of a loop's body nothing is asked.
   abbrev pub Visits : Type 0 → Type 0 → Row → Type 0
   Visits A B end = A
-  Visits A B (step i r) = Visits A B r
+  Visits A B (step i r) = Passes i → Visits A B r
   Visits A B (stop i r) = Unit {0}
   Visits A B (leave i r) = B
   Visits A B (leave_if i r) = B × Visits A B r
@@ -79,7 +79,7 @@ module _ (Visited : ℕ → Type 0) where
 
     pub row_visits : (r : Row) → RowVisits r
     row_visits end l i to cost br k A B h w v a b = a (ap (λ (z : Cost). z.ends) v)
-    row_visits (step j r) l i to cost br k A B h w v a b = row_visits r l (suc i) to _ br k A B h w.3 v a b
+    row_visits (step j r) l i to cost br k A B h w v a b = λ passes. row_visits r l (suc i) to _ br k A B h w.3 v a b
     row_visits (stop j r) l i to cost br k A B h w v a b = tt
     row_visits (leave j r) l i to cost br k A B h w v a b = b (rw v (note_broken br (cost + fee j)))
     row_visits (leave_if j r) l i to cost br k A B h w v a b =

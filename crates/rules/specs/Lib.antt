@@ -30,3 +30,6 @@ pub mod Paths
 pub mod Values
 pub mod Claims
 pub mod SureClaims
+pub mod Yields
+pub mod YieldClaims
+pub mod YieldCases

@@ -2,7 +2,7 @@
 use Rattle.std.specs.Prelude.{ℕ}
 use Rattle.rules.specs.Kinds as K
 use Rattle.words.specs.declared.kinds.Kind.{Kind}
-use Rattle.words.specs.declared.kinds.Kind.TheVariants.{Const, GetLocal, SetLocal, CmpGe, If, Else, EndIf, Loop, EndLoop, Break, BreakIf, Stream, Reset, Call, Return, NewComposite, GetIndex, Len, Trap, CheckedAdd, PopN, CallVerifiedNative, CallExternalNative, Module, Chunk, Integer, Other, Extra}
+use Rattle.words.specs.declared.kinds.Kind.TheVariants.{Const, GetLocal, SetLocal, CmpGe, If, Else, EndIf, Loop, EndLoop, Break, BreakIf, Stream, Reset, Call, Return, Yield, NewComposite, GetIndex, Len, Trap, CheckedAdd, PopN, CallVerifiedNative, CallExternalNative, Module, Chunk, Integer, Other, Extra}
 
 abbrev pub kind_number : Kind → ℕ
 kind_number Const = K.const
@@ -20,6 +20,7 @@ kind_number Stream = K.stream
 kind_number Reset = K.reset
 kind_number Call = K.call
 kind_number Return = K.return
+kind_number Yield = K.yield
 kind_number NewComposite = K.new_composite
 kind_number GetIndex = K.get_index
 kind_number Len = K.len

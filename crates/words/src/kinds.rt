@@ -18,6 +18,7 @@ pub enum Kind {
     Reset = 29,
     Call = 30,
     Return = 31,
+    Yield = 32,
     NewComposite = 34,
     GetIndex = 36,
     Len = 39,
