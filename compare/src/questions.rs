@@ -135,6 +135,22 @@ impl List {
         self.ask(name, question)
     }
 
+    /// A question about a chunk over a lent list.
+    fn over(
+        &mut self,
+        name: &str,
+        asked: Asked,
+        (held, chunk): (&[Chunk], usize),
+        callees: &[u32],
+    ) -> &mut Question {
+        let question = Question {
+            chunk,
+            callees: callees.to_vec(),
+            ..Question::of(asked, &form::write(held))
+        };
+        self.ask(name, question)
+    }
+
     fn stack(
         &mut self,
         name: &str,
@@ -142,12 +158,7 @@ impl List {
         chunk: usize,
         callees: &[u32],
     ) -> &mut Question {
-        let question = Question {
-            chunk,
-            callees: callees.to_vec(),
-            ..Question::of(Asked::Stack, &form::write(held))
-        };
-        self.ask(name, question)
+        self.over(name, Asked::Stack, (held, chunk), callees)
     }
 
     fn yields(
@@ -157,12 +168,7 @@ impl List {
         chunk: usize,
         callees: &[u32],
     ) -> &mut Question {
-        let question = Question {
-            chunk,
-            callees: callees.to_vec(),
-            ..Question::of(Asked::Yields, &form::write(held))
-        };
-        self.ask(name, question)
+        self.over(name, Asked::Yields, (held, chunk), callees)
     }
 
     /// The call order or the sheet in a tray of so much room.
