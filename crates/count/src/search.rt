@@ -22,11 +22,25 @@ pub fn op_at(ops: &[u32], i: usize) -> u32
     ops.get(i).copied().unwrap_or(NO_OP)
 }
 
+// The op at a position is of kind k, any number: `Kind` names but some. What stands past the end is of a kind that no op has.
+pub fn is_kind(ops: &[u32], i: usize, k: u32) -> bool
+    ensures { result ≡ eqb (kind (op_at ops.now i)) k }
+{
+    op_at(ops, i) / fields::KIND_UNIT == k
+}
+
+// A word of kind k, any number, whose field a is `a`.
+pub fn is_of(w: u32, k: u32, a: u32) -> bool
+    ensures { result ≡ (eqb (kind w) k && eqb (field_a w) a) }
+{
+    (w / fields::KIND_UNIT == k) & (w % fields::B_UNIT == a)
+}
+
 // A word of kind k whose field a is the slot.
 pub(crate) fn has_slot(w: u32, k: Kind, slot: u32) -> bool
     ensures { result ≡ (eqb (kind w) (kind_number k) && eqb (field_a w) slot) }
 {
-    is(w, k) & (w % fields::B_UNIT == slot)
+    is_of(w, k as u32, slot)
 }
 
 // None of the n ops from i on sets v or e. The pass is not cut short, so that the machine can take several ops at a time.

@@ -6,7 +6,8 @@
 
 pub mod answers;
 
-ghost use Rattle.std.specs.Prelude.{◌≤◌};
+ghost use Rattle.std.specs.Prelude.{◌+◌, ◌≤◌};
+ghost use Rattle.arrayvec.specs.ArrayVec.{array_vec_len};
 ghost use Rattle.replay.specs.Buffers.{word_room};
 
 use crate::answers::{Asked, Question, TRAY, answer};
@@ -28,17 +29,20 @@ const HIGH: usize = 4294967296;
 // The most questions.
 const QUESTIONS: usize = 1000;
 
-// So many numbers of the input; none where the input ends before.
-fn take<const N: usize, R: Read>(input: &mut R, n: usize) -> Option<ArrayVec<u32, N>>
-    requires { (n ≤ N) × (n ≤ word_room) }
+// So many numbers of the input behind those of a list; none where the input ends before. The list is lent: one that is handed out is copied on its way.
+fn take<const N: usize, R: Read>(
+    input: &mut R,
+    n: usize,
+    numbers: &mut ArrayVec<u32, N>,
+) -> Option<()>
+    requires { (array_vec_len numbers.old + n ≤ N) × (n ≤ word_room) }
 {
     // `read_exact` is lent a slice: a list that grows would be filled first and cut then.
     let mut bytes = [0u8; 4 * WORDS];
     let front = &mut bytes[..4 * n];
     input.read_exact(front).ok()?;
-    let mut numbers = ArrayVec::new();
-    to_words(front, &mut numbers);
-    Some(numbers)
+    to_words(front, numbers);
+    Some(())
 }
 
 // A number of two halves.
@@ -49,9 +53,10 @@ fn both(low: u32, high: u32) -> usize {
 // One question, and its answer as a line; none where the input ends, or asks for more than there is room for. A number that no question has is answered by an
 // empty line.
 fn next_question<R: Read, W: Write>(input: &mut R, out: &mut W) -> io::Result<Option<()>> {
-    let Some(head) = take::<HEAD, R>(input, HEAD) else {
+    let mut head: ArrayVec<u32, HEAD> = ArrayVec::new();
+    if take(input, HEAD, &mut head).is_none() {
         return Ok(None);
-    };
+    }
     let [number, chunk, chunk_high, position, position_high, room, n] = head.as_slice() else {
         return Ok(None);
     };
@@ -64,13 +69,14 @@ fn next_question<R: Read, W: Write>(input: &mut R, out: &mut W) -> io::Result<Op
         return Ok(None);
     }
     let with_list = *number == Question::Stack as u32 || *number == Question::Yields as u32;
-    let callee_count = if with_list { asked.room } else { 0 };
-    let Some(callees) = take::<TRAY, R>(input, callee_count) else {
+    let mut callees: ArrayVec<u32, TRAY> = ArrayVec::new();
+    if with_list && take(input, asked.room, &mut callees).is_none() {
         return Ok(None);
-    };
-    let Some(words) = take::<WORDS, R>(input, *n as usize) else {
+    }
+    let mut words: ArrayVec<u32, WORDS> = ArrayVec::new();
+    if take(input, *n as usize, &mut words).is_none() {
         return Ok(None);
-    };
+    }
     answer(out, *number, asked, &words, &callees)?;
     writeln!(out)?;
     Ok(Some(()))

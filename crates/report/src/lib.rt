@@ -1,12 +1,14 @@
-// What the program `sheet` prints, from the bytes that it read. The module `shelf` is of the program `shelf`.
+// The program `sheet`, and what it prints from the bytes that it read. The module `shelf` is of the program `shelf`.
 
 #![tactic(auto)]
 
+pub mod lent;
 pub mod line;
 pub mod shelf;
 
-ghost use Rattle.std.specs.Prelude.{◌≡◌, ◌++◌, ◌+◌, ◌*◌, ◌≤◌, List, length, take, OnOk, IfErr};
+ghost use Rattle.std.specs.Prelude.{◌≡◌, ◌++◌, ◌+◌, ◌*◌, ◌≤◌, ◌<◌, List, length, take, OnOk, IfErr};
 ghost use Rattle.arrayvec.specs.ArrayVec.{array_vec_len};
+ghost use Rattle.rules.specs.Limits.{most_words};
 ghost use Rattle.rules.specs.Outcome.{refused};
 ghost use Rattle.rules.specs.Sheet.{Line, line_width, tray_numbers};
 ghost use Rattle.rules.specs.Text.{line_most, lines_text, outcome_text, sheet_most, sheet_text};
@@ -17,6 +19,7 @@ use arrayvec::ArrayVec;
 use line::{HEADING, LINE, put_heading, put_line};
 use lines::row::{ROOM, WIDTH};
 use sheets::module::sheet_of;
+use std::io::{Read, Write};
 use text::{put_refused, to_words};
 use words::limits::{CHUNKS, WORDS};
 use words::reader::read_module;
@@ -30,6 +33,19 @@ pub const IN: usize = LONGEST + 1;
 
 // The most bytes of a text.
 pub const OUT: usize = HEADING + CHUNKS * LINE;
+
+// The program around `sheet_text`. The buffer has room for more than the bytes of the longest word list: with less, a list that is too long would be read as
+// one of the longest.
+pub fn run_sheet<R: Read, W: Write, E: Write>(
+    reader: &mut R,
+    writer: &mut W,
+    errors: &mut E,
+    buf: &mut [u8],
+)
+    requires { 4 * most_words < length buf.old }
+{
+    filter::run(reader, writer, errors, b"sheet", buf, sheet_text);
+}
 
 // The text for the bytes of an input. `shelf_bytes` has the same two steps; the room of a text is part of its type, and a closure over it is refused ("a bound
 // `Fn`, `FnMut` or `FnOnce` names a const parameter"), so each stands for itself.

@@ -1,13 +1,15 @@
-// What the program `shelf` writes, from the bytes that it read.
-ghost use Rattle.std.specs.Prelude.{◌≡◌, ◌++◌, ◌+◌, ◌*◌, ◌≤◌, OnOk, IfErr};
+// The program `shelf`, and what it writes from the bytes that it read.
+ghost use Rattle.std.specs.Prelude.{◌≡◌, ◌++◌, ◌+◌, ◌*◌, ◌≤◌, ◌<◌, length, OnOk, IfErr};
 ghost use Rattle.arrayvec.specs.ArrayVec.{array_vec_len};
 ghost use Rattle.rules.specs.Limits.{most_words};
 ghost use Rattle.rules.specs.Outcome.{refused};
 ghost use Rattle.rules.specs.Text.{outcome_text};
-ghost use Rattle.rules.specs.Shelf.{shelf_bytes};
+ghost use Rattle.rules.specs.Shelf.{most_numbers, shelf_bytes};
 ghost use Rattle.words.specs.Refusals.{refusal_number};
 
 use arrayvec::ArrayVec;
+use filter::{read_input, write_output};
+use std::io::{Read, Write};
 use text::{put_refused, put_words, to_words};
 use words::limits::WORDS;
 use words::refusals::{Refusal, Refused};
@@ -27,6 +29,25 @@ pub const SHELF_IN: usize = LONGEST + 1;
 
 // The bytes of the longest module.
 pub const SHELF_OUT: usize = 4 * WORDS;
+
+// The program around `shelf_bytes`. The buffer has room for more than the bytes of the longest input: with less, an input that is too long would be read as one
+// of the longest.
+pub fn run_shelf<R: Read, W: Write, E: Write>(
+    reader: &mut R,
+    writer: &mut W,
+    errors: &mut E,
+    buf: &mut [u8],
+)
+    requires { 4 * most_numbers < length buf.old }
+{
+    let name = b"shelf";
+    let Some(input) = read_input(reader, errors, name, buf) else {
+        return;
+    };
+    // Not by way of `filter::run`: handed out through it the text, 64 KiB, would stand on the machine's stack once more.
+    let text = shelf_bytes(input);
+    write_output(writer, errors, name, &text);
+}
 
 // What `shelf` writes for the bytes of an input.
 pub fn shelf_bytes(input: &[u8]) -> ArrayVec<u8, SHELF_OUT>

@@ -1,17 +1,15 @@
 // The program `sheet`: the sheet of the module on standard input, on standard output.
-// What programs share is `filter::run`; a root file each is left.
+// All of it is `report::run_sheet`; a program has a root file of its own.
 
 #![tactic(auto)]
 
-use report::{IN, sheet_text};
+use report::{IN, run_sheet};
 
 fn main(rt: HostRuntime) {
-    filter::run(
+    run_sheet(
         &mut rt.stdin(),
         &mut rt.stdout(),
         &mut rt.stderr(),
-        b"sheet",
         &mut [0u8; IN],
-        sheet_text,
     );
 }

@@ -1,17 +1,15 @@
 // The program `shelf`: the words of the lent module on standard input, on standard output.
-// What programs share is `filter::run`; a root file each is left.
+// All of it is `report::shelf::run_shelf`; a program has a root file of its own.
 
 #![tactic(auto)]
 
-use report::shelf::{SHELF_IN, shelf_bytes};
+use report::shelf::{SHELF_IN, run_shelf};
 
 fn main(rt: HostRuntime) {
-    filter::run(
+    run_shelf(
         &mut rt.stdin(),
         &mut rt.stdout(),
         &mut rt.stderr(),
-        b"shelf",
         &mut [0u8; SHELF_IN],
-        shelf_bytes,
     );
 }

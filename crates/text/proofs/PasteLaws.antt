@@ -5,6 +5,7 @@ use mathlib.Core.List.{List, [], ◌∷◌, ◌++◌, append_assoc}
 use Prim.Native.Nat.{ℕ, ◌+◌, ◌≤◌, ◌<◌}
 use native.Mathlib.Nat.{add-zero, zero-add, add_assoc}
 use native.Mathlib.Omega.{arith}
+use borrow.Rule.Slice.PartMut.{put_mid}
 use lib.ListN.{length, set, take, drop, length-append, length-take, length-drop, take-append-drop}
 use lib.Seq.{sets, sets-eq, take-append-le, drop-append-le, take_at, drop_at, drop-drop}
 use Rattle.text.specs.Paste.{pasted, Put}
@@ -32,6 +33,15 @@ spelt at xs l = refl
 pub pasted_first : (xs l : List ℕ) → pasted 0 xs l ≡ xs ++ drop (length xs) l
 unfolding pasted
 pasted_first xs l = rw zero-add
+
+-- a paste at the front stands there
+pub pasted_taken : (xs l : List ℕ) → take (length xs) (pasted 0 xs l) ≡ xs
+pasted_taken xs l = rw (pasted_first xs l) (take_at xs (drop (length xs) l) (length xs) refl)
+
+-- a list put in the middle of another is a paste
+pub mid_pasted : (at k : ℕ) (xs l : List ℕ) → k ≡ length xs → put_mid at k l xs ≡ pasted at xs l
+unfolding pasted
+mid_pasted at k xs l e = rw e (ap (λ (t : List ℕ). take at l ++ (xs ++ t)) (drop-drop (length xs) at l))
 
 -- a text at the front, by another name
 pub same_text : (xs ys l : List ℕ) {m : List ℕ} {r : ℕ} → Put 0 xs l m r → xs ≡ ys → (m ≡ pasted 0 ys l) × (r ≡ length ys)
@@ -73,3 +83,14 @@ module _ (at : ℕ) (xs l : List ℕ) (fits : at + length xs ≤ length l) where
   pasted_twice ys =
       rw (spelt (at + length xs) ys (pasted at xs l), spelt at (xs ++ ys) l, front, behind (length ys))
       (simp (length-append, append_assoc, add_assoc))
+
+-- one store more at the end of a paste
+pub pasted_next : (at b : ℕ) (xs l : List ℕ) → at + length xs < length l → set (pasted at xs l) (at + length xs) b ≡ pasted at (xs ++ (b ∷ [])) l
+pasted_next at b xs l h =
+    let fits : at + length xs ≤ length l = omega arith in
+    pasted-one (at + length xs) b (pasted at xs l) (omega (arith, pasted_length at xs l fits)) ∙ pasted_twice at xs l fits (b ∷ [])
+
+-- one text behind the other
+pub then : (at : ℕ) (xs ys l : List ℕ) {m n : List ℕ} {p q : ℕ} → at + length xs ≤ length l
+    → Put at xs l m p → Put p ys m n q → Put at (xs ++ ys) l n q
+then at xs ys l fits f g = (g.0 ∙ simp (f.0, f.1) (pasted_twice at xs l fits ys), simp length-append (omega arith))

@@ -1,15 +1,19 @@
 -- The words of a list of bytes: how many they are, and each by its four bytes, one a turn. The bytes of a list of words: room for one word more, and
 -- what it adds.
 -- Assumes nothing.
-use mathlib.Core.Path.{◌≡◌, refl}
+use mathlib.Core.Path.{◌≡◌, refl, ap}
 use mathlib.Core.List.{List, [], ◌∷◌, ◌++◌}
-use Prim.Native.Nat.{ℕ, zero, suc, ◌+◌, ◌*◌, ◌/◌, ◌%◌, ◌^◌, ◌<◌, ◌≤◌}
+use Prim.Native.Nat.{ℕ, zero, suc, ◌+◌, ◌*◌, ◌/◌, ◌%◌, ◌^◌, ◌<◌, ◌≤◌, min}
+use native.Mathlib.Nat.{zero-add, mul-suc}
+use native.Mathlib.Numerals.{towards_suc}
 use native.Mathlib.Omega.{arith}
-use lib.ListN.{length, get_or, take}
+use lib.ListN.{length, get_or, set, take, drop, take-append-drop}
 use lib.Seq.{length-take-le}
 use Rattle.std.specs.Simd.{first_chunks}
-use Rattle.std.proofs.lemmas.List.{take_more}
+use Rattle.std.proofs.lemmas.List.{take_more, take_min, drop_min}
 use Rattle.rules.specs.Text.{words_of, bytes_in}
+use Rattle.text.specs.Paste.{pasted, Put}
+use Rattle.text.proofs.PasteLaws.{pasted_taken, pasted_next}
 
 -- how many words there are
 pub words_length : (bytes : List ℕ) → length (words_of bytes) ≡ length bytes / 4
@@ -19,6 +23,30 @@ words_length (a ∷ []) = refl
 words_length (a ∷ b ∷ []) = refl
 words_length (a ∷ b ∷ c ∷ []) = refl
 words_length (a ∷ b ∷ c ∷ d ∷ bytes) = omega (arith, words_length bytes)
+
+-- no bytes hold no words
+pub no_words : (bytes : List ℕ) → length bytes ≡ 0 → words_of bytes ≡ []
+unfolding words_of
+no_words [] h = refl
+no_words (a ∷ bytes) h = absurd (omega arith)
+
+-- the words of the first bytes, so many that four divides it, and of those behind them
+pub words_split : (k : ℕ) (bytes : List ℕ) → words_of (take (4 * k) bytes) ++ words_of (drop (4 * k) bytes) ≡ words_of bytes
+unfolding words_of
+words_split zero bytes = refl
+words_split (suc k) [] = simp (mul-suc, towards_suc) refl
+words_split (suc k) (a ∷ []) = simp (mul-suc, towards_suc) refl
+words_split (suc k) (a ∷ b ∷ []) = simp (mul-suc, towards_suc) refl
+words_split (suc k) (a ∷ b ∷ c ∷ []) = simp (mul-suc, towards_suc) refl
+words_split (suc k) (a ∷ b ∷ c ∷ d ∷ bytes) = simp (mul-suc, towards_suc) (ap (λ (ws : List ℕ). (a + 256 * (b + 256 * (c + 256 * d))) ∷ ws) (words_split k bytes))
+
+-- the words of a block that was read to the front of a list, and those of the bytes behind it
+pub block_read : (n : ℕ) (bytes read : List ℕ) {after : List ℕ} {k : ℕ} → Put 0 (words_of (take (min (4 * n) (length bytes)) bytes)) read after k
+    → take k after ++ words_of (drop (min (4 * n) (length bytes)) bytes) ≡ words_of bytes
+block_read n bytes read {after} {k} p =
+    let xs = words_of (take (min (4 * n) (length bytes)) bytes) in
+    let front : take k after ≡ xs = rw (p.0, p.1, zero-add (length xs)) (pasted_taken xs read) in
+    rw (front, take_min (4 * n) bytes, drop_min (4 * n) bytes) (words_split n bytes)
 
 -- the word of four bytes
 abbrev pub of_four : List ℕ → ℕ
@@ -41,6 +69,15 @@ pub more_words : (i : ℕ) (bytes : List ℕ) → i < length bytes / 4
 more_words i bytes h =
     let near : i < length (words_of bytes) = omega (arith, words_length bytes) in
     rw (take_more (words_of bytes) i 0 near, word_of_chunk (length bytes / 4) i bytes refl h)
+
+-- one word more, stored in a list
+pub stored_word : (i : ℕ) (bytes words : List ℕ) → length bytes / 4 ≤ length words → i < length bytes / 4
+    → set (pasted 0 (take i (words_of bytes)) words) i (of_four (get_or (first_chunks 4 (length bytes / 4) bytes) i [])) ≡ pasted 0 (take (i + 1) (words_of bytes)) words
+stored_word i bytes words fits h =
+    let xs = take i (words_of bytes) in
+    let b = of_four (get_or (first_chunks 4 (length bytes / 4) bytes) i []) in
+    let long : length xs ≡ i = length-take-le i (words_of bytes) (omega (arith, words_length bytes)) in
+    rw (← more_words i bytes h) (simp (zero-add, long) at (pasted_next 0 b xs words (omega (arith, long))))
 
 -- how many bytes there are
 pub bytes_length : (words : List ℕ) → length (bytes_in words) ≡ 4 * length words
@@ -65,3 +102,18 @@ module _ (i : ℕ) (words : List ℕ) (h : i < length words) where
   more_bytes w fits is =
       let top : w / 16777216 % 256 ≡ w / 16777216 = omega arith in
       rw (take_more words i 0 h, bytes_append (take i words) (get_or words i 0 ∷ []), ← is, top)
+
+-- the bytes of a block that was written to the front of a list, and those of the words behind it
+pub block_written : (n : ℕ) (words made : List ℕ) {after : List ℕ} {k : ℕ} → after ≡ pasted 0 (bytes_in (take (min n (length words)) words)) made
+    → k ≡ 0 + length (bytes_in (take (min n (length words)) words)) → take k after ++ bytes_in (drop (min n (length words)) words) ≡ bytes_in words
+block_written n words made {after} {k} e f =
+    let m = min n (length words) in
+    let xs = bytes_in (take m words) in
+    let front : take k after ≡ xs = rw (e, f, zero-add (length xs)) (pasted_taken xs made) in
+    rw (front, ← bytes_append (take m words) (drop m words), take-append-drop m words) refl
+
+-- no words have no bytes
+pub no_bytes : (words : List ℕ) → length words ≡ 0 → bytes_in words ≡ []
+unfolding bytes_in
+no_bytes [] h = refl
+no_bytes (w ∷ words) h = absurd (omega arith)

@@ -2,6 +2,8 @@
 
 #![tactic(auto)]
 
+pub mod lent;
+
 ghost use Rattle.std.specs.Prelude.{◌≡◌, ◌++◌, ◌+◌, ◌≤◌, ◌/◌, length};
 ghost use Rattle.arrayvec.specs.ArrayVec.{array_vec_len};
 ghost use Rattle.rules.specs.Outcome.{refused};
@@ -13,14 +15,22 @@ use arrayvec::ArrayVec;
 use itoa::Buffer;
 use words::refusals::Refused;
 
+// So many words are read or written together: one by one they took half as long again, and 64 together a seventh longer.
+const BLOCK: usize = 512;
+
 // The words of the bytes behind those that are there, the lowest byte of each first. Bytes behind the last whole word are left out.
 // The list is lent, since one that is handed out stands on the machine's stack twice, and that of `shelf` is of 66,000 numbers.
 pub fn to_words<const N: usize>(bytes: &[u8], words: &mut ArrayVec<u32, N>)
     requires { array_vec_len words.old + length bytes.now / 4 ≤ N }
     ensures { words.new.items ≡ words.old.items ++ words_of bytes.now }
 {
-    for &four in bytes.as_chunks::<4>().0 {
-        words.push(u32::from_le_bytes(four));
+    let mut read = [0u32; BLOCK];
+    let mut rest = bytes;
+    while !rest.is_empty() {
+        let (block, behind) = rest.split_at((4 * BLOCK).min(rest.len()));
+        let n = lent::to_words(block, &mut read);
+        words.try_extend_from_slice(&read[..n]).unwrap();
+        rest = behind;
     }
 }
 
@@ -37,8 +47,13 @@ pub fn put_words<const N: usize>(out: &mut ArrayVec<u8, N>, words: &[u32])
     requires { array_vec_len out.old + length (bytes_in words.now) ≤ N }
     ensures { out.new.items ≡ out.old.items ++ bytes_in words.now }
 {
-    for w in words {
-        put_bytes(out, &w.to_le_bytes());
+    let mut made = [0u8; 4 * BLOCK];
+    let mut rest = words;
+    while !rest.is_empty() {
+        let (block, behind) = rest.split_at(BLOCK.min(rest.len()));
+        let end = lent::put_words(&mut made, 0, block);
+        put_bytes(out, &made[..end]);
+        rest = behind;
     }
 }
 

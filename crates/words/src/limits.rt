@@ -1,4 +1,4 @@
-// Document 01's limits by their words. 4,294,967,295 has three meanings here, each with a name of its own; the greatest count of a loop is what 32 bits hold.
+// Document 01's limits by their words. 4,294,967,295 has four meanings, each with a name of its own.
 // "At most 16,384 words."
 pub const WORDS: usize = 16384;
 
@@ -16,6 +16,9 @@ pub const CYCLE_CAP: u32 = 4294967295;
 
 // The greatest extra: open text.
 pub const OPEN_TEXT: u32 = 4294967295;
+
+// The greatest count of a loop: what its 32 bits hold.
+pub const PASSES: u32 = 4294967295;
 
 // What stands past the end of the ops: a word that is no op.
 pub const NO_OP: u32 = 4294967295;
