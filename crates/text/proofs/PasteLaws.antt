@@ -1,4 +1,4 @@
--- Laws of `pasted`: its length, what stands in front of its end and beyond, stores as a paste, and two pastes in a row as one.
+-- Laws of `pasted`: its length, what stands in front of its end and beyond, stores and a list put in the middle as a paste, and two pastes in a row as one.
 -- Assumes nothing.
 use mathlib.Core.Path.{◌≡◌, refl, ap, ◌∙◌}
 use mathlib.Core.List.{List, [], ◌∷◌, ◌++◌, append_assoc}
@@ -34,9 +34,9 @@ pub pasted_first : (xs l : List ℕ) → pasted 0 xs l ≡ xs ++ drop (length xs
 unfolding pasted
 pasted_first xs l = rw zero-add
 
--- a paste at the front stands there
-pub pasted_taken : (xs l : List ℕ) → take (length xs) (pasted 0 xs l) ≡ xs
-pasted_taken xs l = rw (pasted_first xs l) (take_at xs (drop (length xs) l) (length xs) refl)
+-- what was put at the front stands there
+pub put_taken : (xs l : List ℕ) {m : List ℕ} {k : ℕ} → Put 0 xs l m k → take k m ≡ xs
+put_taken xs l p = rw (p.0, p.1, zero-add (length xs), pasted_first xs l) (take_at xs (drop (length xs) l) (length xs) refl)
 
 -- a list put in the middle of another is a paste
 pub mid_pasted : (at k : ℕ) (xs l : List ℕ) → k ≡ length xs → put_mid at k l xs ≡ pasted at xs l

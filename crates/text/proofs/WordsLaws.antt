@@ -1,5 +1,5 @@
--- The words of a list of bytes: how many they are, and each by its four bytes, one a turn. The bytes of a list of words: room for one word more, and
--- what it adds.
+-- The words of a list of bytes: how many they are, each by its four bytes, one a turn, and a block of them. The bytes of a list of words: room for one
+-- word more, what it adds, and a block of them.
 -- Assumes nothing.
 use mathlib.Core.Path.{◌≡◌, refl, ap}
 use mathlib.Core.List.{List, [], ◌∷◌, ◌++◌}
@@ -13,7 +13,7 @@ use Rattle.std.specs.Simd.{first_chunks}
 use Rattle.std.proofs.lemmas.List.{take_more, take_min, drop_min}
 use Rattle.rules.specs.Text.{words_of, bytes_in}
 use Rattle.text.specs.Paste.{pasted, Put}
-use Rattle.text.proofs.PasteLaws.{pasted_taken, pasted_next}
+use Rattle.text.proofs.PasteLaws.{put_taken, pasted_next}
 
 -- how many words there are
 pub words_length : (bytes : List ℕ) → length (words_of bytes) ≡ length bytes / 4
@@ -43,10 +43,7 @@ words_split (suc k) (a ∷ b ∷ c ∷ d ∷ bytes) = simp (mul-suc, towards_suc
 -- the words of a block that was read to the front of a list, and those of the bytes behind it
 pub block_read : (n : ℕ) (bytes read : List ℕ) {after : List ℕ} {k : ℕ} → Put 0 (words_of (take (min (4 * n) (length bytes)) bytes)) read after k
     → take k after ++ words_of (drop (min (4 * n) (length bytes)) bytes) ≡ words_of bytes
-block_read n bytes read {after} {k} p =
-    let xs = words_of (take (min (4 * n) (length bytes)) bytes) in
-    let front : take k after ≡ xs = rw (p.0, p.1, zero-add (length xs)) (pasted_taken xs read) in
-    rw (front, take_min (4 * n) bytes, drop_min (4 * n) bytes) (words_split n bytes)
+block_read n bytes read p = rw (put_taken _ read p, take_min (4 * n) bytes, drop_min (4 * n) bytes) (words_split n bytes)
 
 -- the word of four bytes
 abbrev pub of_four : List ℕ → ℕ
@@ -104,13 +101,11 @@ module _ (i : ℕ) (words : List ℕ) (h : i < length words) where
       rw (take_more words i 0 h, bytes_append (take i words) (get_or words i 0 ∷ []), ← is, top)
 
 -- the bytes of a block that was written to the front of a list, and those of the words behind it
-pub block_written : (n : ℕ) (words made : List ℕ) {after : List ℕ} {k : ℕ} → after ≡ pasted 0 (bytes_in (take (min n (length words)) words)) made
-    → k ≡ 0 + length (bytes_in (take (min n (length words)) words)) → take k after ++ bytes_in (drop (min n (length words)) words) ≡ bytes_in words
-block_written n words made {after} {k} e f =
+pub block_written : (n : ℕ) (words made : List ℕ) {after : List ℕ} {k : ℕ} → Put 0 (bytes_in (take (min n (length words)) words)) made after k
+    → take k after ++ bytes_in (drop (min n (length words)) words) ≡ bytes_in words
+block_written n words made p =
     let m = min n (length words) in
-    let xs = bytes_in (take m words) in
-    let front : take k after ≡ xs = rw (e, f, zero-add (length xs)) (pasted_taken xs made) in
-    rw (front, ← bytes_append (take m words) (drop m words), take-append-drop m words) refl
+    rw (put_taken _ made p, ← bytes_append (take m words) (drop m words), take-append-drop m words) refl
 
 -- no words have no bytes
 pub no_bytes : (words : List ℕ) → length words ≡ 0 → bytes_in words ≡ []

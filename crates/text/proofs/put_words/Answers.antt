@@ -42,7 +42,7 @@ pub loop-rest-preserved : goal.loop-rest-preserved
 loop-rest-preserved g c =
     let written = rw (c.split_at.ensures.front, c.min.ensures) at c.put_words-end.ensures.written in
     let next = rw (c.split_at.ensures.front, c.min.ensures) at c.put_words-end.ensures.next in
-    rw (c.put_bytes.ensures, c.split_at.ensures.back, c.min.ensures, append_assoc, block_written 512 c.loop-rest.rest.now _ written next) c.loop-rest.invariant
+    rw (c.put_bytes.ensures, c.split_at.ensures.back, c.min.ensures, append_assoc, block_written 512 c.loop-rest.rest.now _ (written, next)) c.loop-rest.invariant
 
 pub returns : goal.returns
 returns g c = rw (no_bytes c.loop-rest.rest.now (search rules), append-nil) at c.loop-rest.invariant
